@@ -1,0 +1,17 @@
+pub mod Numbers
+pub mod Places
+pub mod Studies
+pub mod Blocks
+pub mod Samples
+pub mod Frames
+pub mod Lanes
+pub mod Schedules
+pub mod Histories
+pub mod Survival
+pub mod Fitting
+pub mod Completion
+pub mod Outcomes
+pub mod AcceptedRows
+pub mod Statistics
+pub mod Indices
+pub mod ResultText
