@@ -15,3 +15,4 @@ pub mod AcceptedRows
 pub mod Statistics
 pub mod Indices
 pub mod ResultText
+pub mod Standing
