@@ -1,11 +1,23 @@
--- How a shape keeps its thresholds.
+-- How a shape keeps its thresholds, and which numbers a shape is made of.
 use Rattle.std.specs.Prelude.{◌≡◌, ℕ, ◌≤◌, List, ◌++◌, replicate, take, length, min, refl}
 use Rattle.std.proofs.Common.{sym, ◌∙◌, ap, arith, length-take, length-append}
 use Rattle.std.proofs.Math.ListN.{length-replicate}
+use Rattle.mls_model.specs.Studies.{Sizes, AreSizes}
+use Rattle.mls_base.specs.declared.numbers.Numbers.{Numbers}
 
 -- eight places: the numbers, and 0 behind them
 abbrev pub padded : List ℕ → List ℕ
 padded xs = take 8 (xs ++ replicate 8 0)
+
+-- the sizes that numbers give
+abbrev pub sizes_of : Numbers → Sizes
+sizes_of n = record { cells = n.cells; steps = n.steps; groups = n.groups; parameters = n.parameters; ranks = n.ranks; clients = n.clients; slots = n.slots; silence = n.silence; lives = n.lives; thresholds = take n.thresholds n.threshold; signed = n.signed; fields = n.fields }
+
+-- There are at most eight thresholds, the places behind them are 0, and the sizes are within the ranges of a study file.
+pub record AreNumbers (n : Numbers) : Type 0 where
+  pub few : n.thresholds ≤ 8
+  pub behind : n.threshold ≡ padded (take n.thresholds n.threshold)
+  pub sizes : AreSizes (sizes_of n)
 
 length-padded : (xs : List ℕ) → length (padded xs) ≡ 8
 length-padded xs = omega (arith, length-take 8 (xs ++ replicate 8 0), length-append xs (replicate 8 0), length-replicate {A = ℕ} 8 0)

@@ -2,5 +2,9 @@
 #![tactic(auto)]
 
 pub mod faults;
+pub mod numbers;
+pub mod outside;
 pub mod rows;
 pub mod shape;
+
+pub use mls_model::blocks::Span;
