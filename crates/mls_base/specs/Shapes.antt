@@ -1,5 +1,6 @@
 -- How a shape keeps its thresholds, and which numbers a shape is made of.
-use Rattle.std.specs.Prelude.{◌≡◌, ℕ, ◌*◌, ◌≤◌, List, ◌++◌, replicate, take, length, min, refl, IsTrue}
+use Rattle.std.specs.Prelude.{◌≡◌, ℕ, ◌*◌, ◌≤◌, List, ◌++◌, replicate, take, length, min, IsTrue, nat_le}
+use Rattle.std.specs.List.{list_all}
 use Rattle.std.proofs.Common.{sym, ◌∙◌, ap, arith, length-take, length-append}
 use Rattle.std.proofs.Math.ListN.{length-replicate}
 use Rattle.mls_model.specs.Studies.{Sizes, AreSizes, rises}
@@ -51,6 +52,7 @@ pub record HaveProducts (n : Numbers) : Type 0 where
 pub record HaveThresholds (n : Numbers) : Type 0 where
   pub few : n.thresholds ≤ 8
   pub rise : IsTrue (rises (take n.thresholds n.threshold))
+  pub fit : IsTrue (list_all (λ t. nat_le t 65535) (take n.thresholds n.threshold))
   pub behind : n.threshold ≡ padded (take n.thresholds n.threshold)
 
 length-padded : (xs : List ℕ) → length (padded xs) ≡ 8

@@ -1,6 +1,7 @@
 //! The numbers of a study that its ranks work by.
 
-ghost use Rattle.std.specs.Prelude.{◌≡◌, ◌<◌, ◌↔◌, ◌*◌, ◌≤◌, length, slice_index, IsSome, IfSome, IsTrue};
+ghost use Rattle.std.specs.Prelude.{◌≡◌, ◌<◌, ◌↔◌, ◌*◌, ◌≤◌, length, slice_index, IsSome, IfSome, IsTrue, nat_le, ◌==◌};
+ghost use Rattle.std.specs.List.{list_all};
 ghost use Rattle.mls_model.specs.Studies.{AreSizes, planes, plane_of, rises};
 ghost use Rattle.mls_model.specs.Blocks.{share, block, part, overlap, meet};
 ghost use Rattle.mls_base.specs.Shapes.{sizes_of, AreNumbers, HaveSizes, HaveWorkers, HaveProducts, HaveThresholds};
@@ -52,7 +53,10 @@ impl Shape {
         ensures valid { IsSome result ↔ AreNumbers numbers.now }
         ensures value { IfSome result (λ shape. shape ≡ sizes_of numbers.now) }
     {
-        if have_sizes(numbers) && have_workers(numbers) && have_products(numbers) && have_thresholds(numbers)
+        if have_sizes(numbers)
+            && have_workers(numbers)
+            && have_products(numbers)
+            && have_thresholds(numbers)
         {
             Some(Shape {
                 cells: numbers.cells,
@@ -305,7 +309,8 @@ fn have_products(n: &Numbers) -> bool
 
 /// Whether each number is below the one after it.
 fn is_rising(numbers: &[u16]) -> bool
-    ensures { result ≡ rises numbers.now }
+    ensures value { result ≡ rises numbers.now }
+    ensures fit { IsTrue (list_all (λ t. nat_le t 65535) numbers.now) }
 {
     for i in 1..numbers.len() {
         if numbers[i - 1] >= numbers[i] {
@@ -313,6 +318,13 @@ fn is_rising(numbers: &[u16]) -> bool
         }
     }
     true
+}
+
+/// Whether each number is 0.
+fn is_zero(numbers: &[u16]) -> bool
+    ensures { result ≡ list_all (λ x. x == 0) numbers.now }
+{
+    numbers.iter().all(|x| *x == 0)
 }
 
 /// Whether the first `thresholds` places of `threshold` rise, and the places behind them are 0.
@@ -323,5 +335,5 @@ fn have_thresholds(n: &Numbers) -> bool
         return false;
     }
     let (thresholds, behind) = n.threshold.split_at(n.thresholds as usize);
-    is_rising(thresholds) && behind.iter().all(|x| *x == 0)
+    is_rising(thresholds) && is_zero(behind)
 }
