@@ -1,0 +1,4 @@
+//! Sums over the rows of samples of a rank's block.
+#![tactic(auto)]
+
+pub mod fold;
