@@ -1,1 +1,7 @@
-pub mod TwoGroups
+pub mod Small
+pub mod Statistics
+pub mod Assembly
+pub mod Crashes
+pub mod Lanes
+pub mod Fields
+pub mod Samples
