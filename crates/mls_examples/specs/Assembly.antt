@@ -1,14 +1,14 @@
 -- How a mesh is cut, and how a rank makes a group's timestep whole from its clients' pieces.
-use Rattle.std.specs.Prelude.{ℕ, List, [], ◌∷◌, codes, cond}
+use Rattle.std.specs.Prelude.{ℕ, ◌+◌, ◌*◌, ℤ, pos, map, List, [], ◌∷◌, codes, cond}
 use Rattle.std.specs.List.{flat_map}
 use Rattle.mls_model.specs.declared.blocks.Span.{Span}
 use Rattle.mls_model.specs.declared.studies.Statistic.TheVariants.{Power, Sobol}
 use Rattle.mls_model.specs.Numbers.{joined, below}
 use Rattle.mls_model.specs.Studies.{Sizes, Study}
-use Rattle.mls_model.specs.Blocks.{overlaps}
+use Rattle.mls_model.specs.Blocks.{overlap, overlaps, width}
 use Rattle.mls_model.specs.Frames.{Frame, piece}
 use Rattle.mls_model.specs.Lanes.{Lane}
-use Rattle.mls_examples.specs.Small.{one_cell, study_of, small_piece, client_lane}
+use Rattle.mls_examples.specs.Small.{one_cell, study_of, small_piece, sent, client_lane}
 
 -- ten cells for three ranks and two clients
 abbrev pub ten_cells : Sizes
@@ -59,3 +59,39 @@ sent_again_lanes = client_lane (part_sent 0 1 (1 ∷ 2 ∷ 3 ∷ []) ∷ part_se
 
 abbrev pub sent_again_text : List ℕ
 sent_again_text = joined (codes "melissa-result 1\n" ∷ codes "study cells 2 steps 1 groups 2 parameters 1 ranks 1 clients 2\n" ∷ codes "rank 0 accepted 1 kept 2 replay 0 stale 1 repeated 1 foreign 0 0 0 0 0 0\n" ∷ codes "lane 0 rank 0 client events 5 clean\n" ∷ two_lives_cells ∷ codes "end\n" ∷ [])
+
+-- pieces of group 0 for the one cell of a small study, after its timestep is whole
+abbrev pub late_lanes : List Lane
+late_lanes = client_lane (sent 0 2 (1 ∷ 3 ∷ 3 ∷ []) ∷ sent 0 1 (4 ∷ 4 ∷ 4 ∷ []) ∷ sent 0 2 (5 ∷ 5 ∷ 5 ∷ []) ∷ sent 0 3 (6 ∷ 6 ∷ 6 ∷ []) ∷ []) ∷ []
+
+-- ten cells, two steps and three groups for three ranks and two clients
+abbrev pub three_ranks : Study
+three_ranks = study_of (record (one_cell 3) { cells = 10; steps = 2; ranks = 3; clients = 2 }) (Power ∷ Sobol ∷ [])
+
+-- a sample that tells its group, plane, row and cell
+abbrev pub telling : ℕ → ℕ → ℕ → ℕ → ℕ
+telling group plane row x = 1000 * group + 100 * plane + 10 * row + x
+
+-- the piece of a group and plane that a client sends to a rank
+abbrev pub share_sent : ℕ → ℕ → ℕ → ℕ → Frame
+share_sent group rank client plane = piece (record {
+  life = 1;
+  group = group;
+  plane = plane;
+  client = client;
+  rows = 3;
+  first = (overlap three_ranks.sizes rank client).first;
+  count = width (overlap three_ranks.sizes rank client);
+  samples = flat_map (λ row. map (λ place. telling group plane row ((overlap three_ranks.sizes rank client).first + place)) (below (width (overlap three_ranks.sizes rank client)))) (below 3);
+})
+
+-- for each group and each pair a lane with the pieces of both steps
+abbrev pub twelve_lanes : List Lane
+twelve_lanes = flat_map (λ group. map (λ (pair : ℕ × ℕ). record (client_lane (share_sent group pair.0 pair.1 0 ∷ share_sent group pair.0 pair.1 1 ∷ [])) { rank = pair.0 }) (pairs_of three_ranks.sizes)) (below 3)
+
+-- the rows of a plane and cell that these pieces give
+abbrev pub telling_rows : ℕ → ℕ → List (List ℤ)
+telling_rows plane x = map (λ group. map (λ row. pos (telling group plane row x)) (below 3)) (below 3)
+
+abbrev pub three_rank_lines : List ℕ
+three_rank_lines = joined (codes "rank 0 accepted 6 kept 0 replay 0 stale 0 repeated 0 foreign 0 0 0 0 0 0\n" ∷ codes "rank 1 accepted 6 kept 6 replay 0 stale 0 repeated 0 foreign 0 0 0 0 0 0\n" ∷ codes "rank 2 accepted 6 kept 0 replay 0 stale 0 repeated 0 foreign 0 0 0 0 0 0\n" ∷ [])

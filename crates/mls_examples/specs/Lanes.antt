@@ -2,9 +2,9 @@
 use Rattle.std.specs.Prelude.{ℕ, List, [], ◌∷◌, ◌++◌, codes}
 use Rattle.mls_model.specs.declared.lanes.LaneEnd.{LaneEnd}
 use Rattle.mls_model.specs.Numbers.{joined}
-use Rattle.mls_model.specs.Frames.{Piece, piece, save}
+use Rattle.mls_model.specs.Frames.{Frame, Piece, piece, beat, bye, save, crash}
 use Rattle.mls_model.specs.Lanes.{Lane}
-use Rattle.mls_examples.specs.Small.{small_piece, sent, client_lane}
+use Rattle.mls_examples.specs.Small.{small_piece, sent, client_lane, control_lane}
 use Rattle.mls_examples.specs.Statistics.{two_groups_cell}
 
 -- the 35 bytes of the piece of group 0 and life 1 with the samples 1, 3, 3
@@ -68,3 +68,22 @@ huge_piece_bytes = 0 ∷ 0 ∷ 0 ∷ 0x1b ∷ 1 ∷ 0 ∷ 0 ∷ 0 ∷ 0 ∷ 0 �
 
 abbrev pub empty_piece_text : List ℕ
 empty_piece_text = joined (codes "melissa-result 1\n" ∷ codes "study cells 1 steps 1 groups 2 parameters 1 ranks 1 clients 1\n" ∷ codes "rank 0 accepted 0 kept 0 replay 0 stale 0 repeated 0 foreign 0 1 0 0 0 0\n" ∷ codes "lane 0 rank 0 client events 1 clean\n" ∷ codes "step 0 cell 0 groups 0\n" ∷ codes "power -\n" ∷ codes "variance -\n" ∷ codes "third -\n" ∷ codes "sobol x - - 0 0 0 0 0\n" ∷ codes "end\n" ∷ [])
+
+-- what a group sends after its greeting: a beat, its piece and a bye
+abbrev pub group_frames : List Frame
+group_frames = beat 0 1 ∷ sent 0 1 (670 ∷ 507 ∷ 507 ∷ []) ∷ bye 0 1 ∷ []
+
+-- a piece and a crash on a client lane, and then the piece on a control lane
+abbrev pub wrong_kinds : List Lane
+wrong_kinds = client_lane (sent 0 1 (1 ∷ 3 ∷ 3 ∷ []) ∷ crash ∷ []) ∷ control_lane (sent 1 1 (5 ∷ 1 ∷ 1 ∷ []) ∷ []) ∷ []
+
+-- pieces with fewer and fewer faults
+abbrev pub faulty_lanes : List Lane
+faulty_lanes = client_lane (
+    piece (record { life = 1; group = 2; plane = 1; client = 1; rows = 2; first = 1; count = 1; samples = 1 ∷ 2 ∷ [] })
+  ∷ piece (record { life = 1; group = 2; plane = 1; client = 1; rows = 3; first = 1; count = 1; samples = 1 ∷ 2 ∷ 3 ∷ [] })
+  ∷ piece (record { life = 1; group = 1; plane = 1; client = 1; rows = 3; first = 1; count = 1; samples = 1 ∷ 2 ∷ 3 ∷ [] })
+  ∷ piece (record { life = 1; group = 1; plane = 0; client = 1; rows = 3; first = 1; count = 1; samples = 1 ∷ 2 ∷ 3 ∷ [] })
+  ∷ piece (record { life = 1; group = 1; plane = 0; client = 0; rows = 3; first = 1; count = 1; samples = 1 ∷ 2 ∷ 3 ∷ [] })
+  ∷ piece (record { life = 1; group = 1; plane = 0; client = 0; rows = 3; first = 0; count = 1; samples = 1 ∷ 2 ∷ 3 ∷ [] })
+  ∷ []) ∷ []

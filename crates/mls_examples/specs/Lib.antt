@@ -5,3 +5,4 @@ pub mod Crashes
 pub mod Lanes
 pub mod Fields
 pub mod Samples
+pub mod Studies

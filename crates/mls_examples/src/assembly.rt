@@ -1,13 +1,14 @@
 //! How a mesh is cut into blocks and parts, and how a rank makes a group's timestep whole.
 
 ghost use Rattle.std.specs.Prelude.{◌≡◌, List, [], ◌∷◌, pos, map, true};
-ghost use Rattle.mls_model.specs.declared.outcomes.Outcome.TheVariants.{Accepted, Kept, Stale, Repeated};
+ghost use Rattle.mls_model.specs.declared.outcomes.Outcome.TheVariants.{Accepted, Kept, Replay, Stale, Repeated};
 ghost use Rattle.mls_model.specs.Numbers.{below};
 ghost use Rattle.mls_model.specs.Blocks.{block, part, overlap};
 ghost use Rattle.mls_model.specs.Outcomes.{outcomes};
-ghost use Rattle.mls_model.specs.ResultText.{result_text, rows_of, survivors};
+ghost use Rattle.mls_model.specs.ResultText.{result_text, rank_lines, counts_of, rows_of, survivors};
 ghost use Rattle.mls_model.specs.Schedules.{plain, is_complete};
-ghost use Rattle.mls_examples.specs.Assembly.{ten_cells, cells_from, pairs_of, two_clients, two_clients_lanes, two_clients_text, first_client_first, second_client_first, two_lives_lanes, two_lives_text, sent_again_lanes, sent_again_text};
+ghost use Rattle.mls_examples.specs.Assembly.{ten_cells, cells_from, pairs_of, two_clients, two_clients_lanes, two_clients_text, first_client_first, second_client_first, two_lives_lanes, two_lives_text, sent_again_lanes, sent_again_text, late_lanes, three_ranks, twelve_lanes, telling_rows, three_rank_lines};
+ghost use Rattle.mls_examples.specs.Small.{small_study};
 
 /// Ten cells in three blocks and two parts. Rank 1 has cells from both clients.
 pub fn blocks_and_parts()
@@ -40,3 +41,19 @@ pub fn two_lives_sent_again()
     ensures cell_1 { rows_of two_clients sent_again_lanes (plain 1 sent_again_lanes) 0 1 ≡ (pos 4 ∷ pos 5 ∷ pos 6 ∷ []) ∷ [] }
     ensures text { result_text two_clients sent_again_lanes (plain 1 sent_again_lanes) ≡ sent_again_text }
 {}
+
+/// Once a timestep is whole, each piece of it is a replay, whatever its life.
+pub fn late_pieces()
+    ensures outcomes { outcomes small_study.sizes 0 (survivors late_lanes (plain 1 late_lanes) 0) ≡ Accepted ∷ Replay ∷ Replay ∷ Replay ∷ [] }
+    ensures rows { rows_of small_study late_lanes (plain 1 late_lanes) 0 0 ≡ (pos 1 ∷ pos 3 ∷ pos 3 ∷ []) ∷ [] }
+{
+}
+
+/// Twelve lanes to three ranks: rank 1 waits for a second client six times, and each cell has its own samples.
+pub fn twelve_lanes_to_three_ranks()
+    ensures complete { is_complete 3 twelve_lanes (plain 3 twelve_lanes) ≡ true }
+    ensures rank_lines { rank_lines (counts_of three_ranks twelve_lanes (plain 3 twelve_lanes)) ≡ three_rank_lines }
+    ensures step_0 { map (rows_of three_ranks twelve_lanes (plain 3 twelve_lanes) 0) (below 10) ≡ map (telling_rows 0) (below 10) }
+    ensures step_1 { map (rows_of three_ranks twelve_lanes (plain 3 twelve_lanes) 1) (below 10) ≡ map (telling_rows 1) (below 10) }
+{
+}

@@ -1,19 +1,19 @@
 //! Bytes as frames, lanes and tapes.
 
-ghost use Rattle.std.specs.Prelude.{◌≡◌, ◌+◌, ◌++◌, List, [], ◌∷◌, map, take, replicate, Result, Ok, Err, false};
+ghost use Rattle.std.specs.Prelude.{◌≡◌, ◌+◌, ◌++◌, length, List, [], ◌∷◌, map, take, replicate, Result, Ok, Err, false};
 ghost use Rattle.mls_model.specs.declared.lanes.LaneKind.TheVariants.{Client};
 ghost use Rattle.mls_model.specs.declared.lanes.LaneEnd.TheVariants.{Clean, Cut, BadKind, BadLength};
 ghost use Rattle.mls_model.specs.declared.lanes.TapeWhy.TheVariants as why;
-ghost use Rattle.mls_model.specs.declared.outcomes.Outcome.TheVariants.{Foreign};
+ghost use Rattle.mls_model.specs.declared.outcomes.Outcome.TheVariants.{Accepted, Foreign, Quiet};
 ghost use Rattle.mls_model.specs.declared.outcomes.Reason.TheVariants as reason;
-ghost use Rattle.mls_model.specs.Numbers.{below};
+ghost use Rattle.mls_model.specs.Numbers.{below, joined};
 ghost use Rattle.mls_model.specs.Frames.{hello, welcome, refuse, piece, spelling, sight, whole, more};
 ghost use Rattle.mls_model.specs.Lanes.{lane_of, tape_of, refused};
 ghost use Rattle.mls_model.specs.Outcomes.{outcomes};
 ghost use Rattle.mls_model.specs.ResultText.{result_text, survivors};
 ghost use Rattle.mls_model.specs.Schedules.{plain};
 ghost use Rattle.mls_examples.specs.Small.{small_study, sent, client_lane};
-ghost use Rattle.mls_examples.specs.Lanes.{piece_0_bytes, no_lane_tape, tape_with, cut_bytes, ended, no_event, cut_text, bad_kind_text, foreign_lanes, foreign_text, empty_piece, empty_piece_bytes, huge_piece_bytes, empty_piece_text};
+ghost use Rattle.mls_examples.specs.Lanes.{piece_0_bytes, no_lane_tape, tape_with, cut_bytes, ended, no_event, cut_text, bad_kind_text, foreign_lanes, foreign_text, empty_piece, empty_piece_bytes, huge_piece_bytes, empty_piece_text, group_frames, wrong_kinds, faulty_lanes};
 
 /// A piece of three samples has 35 bytes. Each proper prefix of them is too little to tell.
 pub fn piece_of_three_samples()
@@ -45,6 +45,26 @@ pub fn foreign_events()
     ensures outcomes { outcomes small_study.sizes 0 (survivors foreign_lanes (plain 1 foreign_lanes) 0) ≡ Foreign reason.Cells ∷ Foreign reason.Group ∷ Foreign reason.LaneKind ∷ [] }
     ensures text { result_text small_study foreign_lanes (plain 1 foreign_lanes) ≡ foreign_text }
 {}
+
+/// The reasons for which a piece is foreign are tried in one order: each piece has one fault less than the one before it.
+pub fn reasons_in_order()
+    ensures outcomes { outcomes small_study.sizes 0 (survivors faulty_lanes (plain 1 faulty_lanes) 0) ≡ Foreign reason.Rows ∷ Foreign reason.Group ∷ Foreign reason.Step ∷ Foreign reason.Client ∷ Foreign reason.Cells ∷ Accepted ∷ [] }
+{
+}
+
+/// A crash on a client lane loses nothing, and a piece on a control lane is not taken.
+pub fn frames_on_wrong_lanes()
+    ensures outcomes { outcomes small_study.sizes 0 (survivors wrong_kinds (plain 1 wrong_kinds) 0) ≡ Accepted ∷ Foreign reason.LaneKind ∷ Foreign reason.LaneKind ∷ [] }
+{
+}
+
+/// What a group sends after its greeting has 61 bytes, and is read as a beat, a piece and a bye.
+pub fn lane_of_a_group()
+    ensures size { length (joined (map spelling group_frames)) ≡ 61 }
+    ensures lane { lane_of 0 Client (joined (map spelling group_frames)) ≡ client_lane group_frames }
+    ensures outcomes { outcomes small_study.sizes 0 (survivors (client_lane group_frames ∷ []) (plain 1 (client_lane group_frames ∷ [])) 0) ≡ Quiet ∷ Accepted ∷ Quiet ∷ [] }
+{
+}
 
 /// Bytes that are no frame: how a lane of them ends. A piece without rows is a frame, and is foreign.
 pub fn hostile_lanes()

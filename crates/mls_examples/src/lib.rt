@@ -10,3 +10,4 @@ pub mod fields;
 pub mod lanes;
 pub mod samples;
 pub mod statistics;
+pub mod studies;
