@@ -1,20 +1,24 @@
 -- From fitting pieces to histories.
-use Rattle.std.proofs.Common.{◌≡◌, ℕ, Bool, true, false, List, [], ◌∷◌, ◌++◌, refl, ap, sym, ◌∙◌, subst}
+use Rattle.std.proofs.Common.{◌≡◌, ℕ, Bool, true, false, List, [], ◌∷◌, ◌++◌, Option, Some, None, refl, ap, sym, ◌∙◌, subst}
 use Rattle.std.specs.Option.{option_to_list}
+use Rattle.std.proofs.lemmas.List.{append-nil}
 use Rattle.mls_model.specs.declared.lanes.LaneKind.{LaneKind}
+use Rattle.mls_model.specs.declared.lanes.LaneKind.TheVariants.{Client, Control}
 use Rattle.mls_model.specs.declared.outcomes.Outcome.{Outcome}
+use Rattle.mls_model.specs.declared.outcomes.Outcome.TheVariants.{Crash}
 use Rattle.mls_model.specs.declared.outcomes.Counts.{Counts}
 use Rattle.mls_model.specs.Places.{gathered}
 use Rattle.mls_model.specs.Studies.{Sizes}
-use Rattle.mls_model.specs.Frames.{Frame, Piece}
+use Rattle.mls_model.specs.Frames.{Frame, Piece, piece, beat, bye, save, crash, hello, welcome, refuse}
 use Rattle.mls_model.specs.Histories.{Event}
 use Rattle.mls_model.specs.Survival.{is_crash, surviving}
 use Rattle.mls_model.specs.Fitting.{fitting, frame_piece, fitting_piece}
 use Rattle.mls_model.specs.Outcomes.{outcome, outcomes, tally, counts}
 use Rattle.mls_model.specs.Standing.{Table, empty_table}
 use Rattle.mls_ledger.specs.MarkSets.{MarkSet, is_marked, marked}
+use Rattle.mls_laws.specs.LastSave.{before_last_save}
 use Rattle.mls_laws.specs.OneMore.{counted}
-use Rattle.mls_laws.proofs.Surviving.{surviving_more}
+use Rattle.mls_laws.proofs.Surviving.{surviving_more, surviving_crash}
 use Rattle.mls_laws.proofs.Outcomes.{fitting_more, counts_more}
 use Rattle.mls_rank.specs.Counting.{no_counts}
 use Rattle.mls_rank.specs.Standing.{KeepsRows, outcome_after}
@@ -70,3 +74,29 @@ holds_step {F} stands s s1 s2 r r1 r2 m1 m2 f1 f2 history e none s_same s_kept r
 -- counts at equal numbers
 pub counts_at : (s s' : Sizes) (r r' : ℕ) (c : Counts) (events : List Event) → s' ≡ s → r' ≡ r → c ≡ counts s r events → c ≡ counts s' r' events
 counts_at s s' r r' c events s_same r_same h = h ∙ sym (ap (λ z. counts z r' events) s_same ∙ ap (λ q. counts s q events) r_same)
+
+crash_frame_outcome : (s : Sizes) (rank : ℕ) (pieces : List Piece) (kind : LaneKind) (frame : Frame) → is_crash (record { kind = kind; frame = frame }) ≡ true → (outcome_after s rank pieces kind frame ≡ Crash) × (frame_piece s rank kind frame ≡ None)
+crash_frame_outcome s rank pieces Client frame h = absurd cc
+crash_frame_outcome s rank pieces Control (piece p) h = absurd cc
+crash_frame_outcome s rank pieces Control (beat g l) h = absurd cc
+crash_frame_outcome s rank pieces Control (bye g l) h = absurd cc
+crash_frame_outcome s rank pieces Control save h = absurd cc
+crash_frame_outcome s rank pieces Control crash h = (refl, refl)
+crash_frame_outcome s rank pieces Control (hello v g l c r) h = absurd cc
+crash_frame_outcome s rank pieces Control (welcome l) h = absurd cc
+crash_frame_outcome s rank pieces Control (refuse r v) h = absurd cc
+
+-- a crash brings back the counts and pieces of what came before the last save
+pub counts_back : (s : Sizes) (rank : ℕ) (history : List Event) (e : Event) → is_crash e ≡ true → counts s rank (surviving (before_last_save history)) ≡ counts s rank (surviving (history ++ e ∷ []))
+counts_back s rank history e h =
+    let out : outcome s rank (surviving (before_last_save history)) e ≡ Crash = sym (outcome_is s rank (surviving (before_last_save history)) e.kind e.frame) ∙ (crash_frame_outcome s rank (fitting s rank (surviving (before_last_save history))) e.kind e.frame h).0 in
+    sym (ap (counts s rank) (surviving_crash history e h)
+    ∙ (counts_more s rank (surviving (before_last_save history)) e
+    ∙ ap (counted (counts s rank (surviving (before_last_save history)))) out))
+
+pub pieces_back : (s : Sizes) (rank : ℕ) (history : List Event) (e : Event) → is_crash e ≡ true → fitting s rank (surviving (before_last_save history)) ≡ fitting s rank (surviving (history ++ e ∷ []))
+pieces_back s rank history e h =
+    sym (ap (fitting s rank) (surviving_crash history e h)
+    ∙ (fitting_more s rank (surviving (before_last_save history)) e
+    ∙ (ap (λ (o : Option Piece). fitting s rank (surviving (before_last_save history)) ++ option_to_list o) ((crash_frame_outcome s rank [] e.kind e.frame h).1)
+    ∙ append-nil (fitting s rank (surviving (before_last_save history))))))

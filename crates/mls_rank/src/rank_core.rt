@@ -10,6 +10,7 @@ ghost use Rattle.mls_model.specs.Survival.{is_save, is_crash, surviving};
 ghost use Rattle.mls_model.specs.Fitting.{piece_reason, frame_piece};
 ghost use Rattle.mls_model.specs.Outcomes.{outcome, piece_outcome};
 ghost use Rattle.mls_laws.specs.Fitting.{Fits};
+ghost use Rattle.mls_laws.specs.LastSave.{before_last_save};
 ghost use Rattle.mls_laws.specs.OneMore.{counted, total};
 ghost use Rattle.mls_frame.specs.Views.{frame_of};
 ghost use Rattle.mls_ledger.specs.MarkSets.{marked};
@@ -232,6 +233,13 @@ impl<F: RowFold> RankCore<F> {
         let outcome = self.take(kind, view);
         self.count(outcome);
         Ok(outcome)
+    }
+
+    /// After a crash the core of the last save stands for the whole history, and where there was no save the core before any event does.
+    pub fn after_crash(&self)
+        ensures { (history : List Event) (e : Event) → is_crash e ≡ true → StandsFor self.now (before_last_save history) → StandsFor self.now (history ++ e ∷ []) }
+    {
+        self.shape.valid();
     }
 
     /// Takes back the state before any event.
