@@ -2,6 +2,7 @@
 #![tactic(auto)]
 
 pub mod faults;
+pub mod memory;
 pub mod numbers;
 pub mod outside;
 pub mod put;
