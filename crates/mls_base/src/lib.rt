@@ -1,6 +1,7 @@
 //! What every crate stands on: the shape of a study, blocks of samples, and the objects of the outside.
 #![tactic(auto)]
 
+pub mod ends;
 pub mod faults;
 pub mod memory;
 pub mod numbers;
