@@ -7,6 +7,7 @@ pub mod memory;
 pub mod numbers;
 pub mod outside;
 pub mod put;
+pub mod row;
 pub mod rows;
 pub mod shape;
 
