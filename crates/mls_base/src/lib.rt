@@ -3,6 +3,7 @@
 
 pub mod ends;
 pub mod faults;
+pub mod laws;
 pub mod memory;
 pub mod numbers;
 pub mod outside;
