@@ -11,5 +11,7 @@ pub mod put;
 pub mod row;
 pub mod rows;
 pub mod shape;
+#[cfg(test)]
+mod tests;
 
 pub use mls_model::blocks::Span;
