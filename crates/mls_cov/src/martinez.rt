@@ -113,6 +113,18 @@ impl Martinez {
         }
     }
 
+    /// Adds a row, given as a slice of its samples.
+    pub fn add_samples(&mut self, row: &[u16])
+        requires row { length row.now ≡ parameters_of self.old + 2 }
+        requires room { count_of self.old < 65535 }
+        ensures count { count_of self.new ≡ count_of self.old + 1 }
+        ensures parameters { parameters_of self.new ≡ parameters_of self.old }
+        ensures adds { (rows : List (List ℕ)) → StandsFor self.old rows → StandsFor self.new (rows ++ row.now ∷ []) }
+    {
+        add_row(&mut self.sums, self.parameters, row);
+        self.count += 1;
+    }
+
     /// The number of rows.
     pub fn count(&self) -> u32
         ensures { result ≡ count_of self.now }
