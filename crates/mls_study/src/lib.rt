@@ -1,0 +1,8 @@
+//! Study files: the reading of one, with its first fault, and the study that it spells.
+#![tactic(auto)]
+
+pub mod fault;
+mod keys;
+mod parameter;
+mod tables;
+mod values;
