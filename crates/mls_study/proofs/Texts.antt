@@ -3,8 +3,13 @@ use Rattle.std.proofs.Common.{◌≡◌, ℕ, ◌≤◌, ◌<◌, ◌-◌, ◌+�
 use Rattle.std.proofs.lemmas.Bool.Decides.{nat_tests}
 use Rattle.std.proofs.lemmas.List.{at_drop_more}
 use Rattle.std.specs.List.{list_any}
+use Rattle.std.specs.Map.{keys_of}
+use Rattle.toml.specs.View.{items_view, members_view}
+use Rattle.toml.specs.declared.value.Value.{Value}
 use Rattle.mls_model.specs.Numbers.{same_bytes}
 use Rattle.mls_model.specs.Studies.{rises}
+use Rattle.mls_study.specs.Names.{member_keys}
+use Rattle.mls_study.specs.StudyFile.{item_count}
 
 -- whether two lists of bytes are the same, in the words of std
 pub same_bytes_is : (xs ys : List ℕ) → same_bytes xs ys ≡ bytes_eq ys xs
@@ -14,6 +19,14 @@ same_bytes_is (x ∷ xs) [] = refl
 same_bytes_is (x ∷ xs) (y ∷ ys) =
     let heads : (x == y) ≡ (y == x) = grind (arith, nat_tests) in
     ap (λ b. b && same_bytes xs ys) heads ∙ ap (λ b. (y == x) && b) (same_bytes_is xs ys)
+
+pub bytes_eq_comm : (xs ys : List ℕ) → bytes_eq xs ys ≡ bytes_eq ys xs
+bytes_eq_comm [] [] = refl
+bytes_eq_comm [] (y ∷ ys) = refl
+bytes_eq_comm (x ∷ xs) [] = refl
+bytes_eq_comm (x ∷ xs) (y ∷ ys) =
+    let heads : (x == y) ≡ (y == x) = grind (arith, nat_tests) in
+    ap (λ b. b && bytes_eq xs ys) heads ∙ ap (λ b. (y == x) && b) (bytes_eq_comm xs ys)
 
 -- a list of at most one number rises
 pub rises_short : (xs : List ℕ) → length xs ≤ 1 → rises xs ≡ true
@@ -31,3 +44,13 @@ has_text_step text texts i other b within is answered =
     at_drop_more (λ (xs : List (String Global)). list_any (same_bytes text) (map string_bytes xs)) texts i other within
     ∙ ap (λ c. c || list_any (same_bytes text) (map string_bytes (drop (i + 1) texts)))
         (same_bytes_is text (string_bytes (get_or texts i other)) ∙ ap (λ (s : String Global). bytes_eq (string_bytes s) text) (sym is) ∙ sym answered)
+
+-- how many items an array has
+pub item_count_view : (vs : List Value) → item_count (items_view vs) ≡ length vs
+item_count_view [] = refl
+item_count_view (v ∷ vs) = omega (arith, item_count_view vs)
+
+-- the keys of a table are those of its members
+pub keys_view : (es : List (String Global × Value)) → map string_bytes (keys_of es) ≡ member_keys (members_view es)
+keys_view [] = refl
+keys_view (e ∷ es) = ap (λ ks. string_bytes e.0 ∷ ks) (keys_view es)

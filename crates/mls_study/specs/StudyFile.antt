@@ -15,6 +15,8 @@ use Rattle.mls_study.specs.declared.fault.StudyFault.TheVariants.{NotToml, Missi
 use Rattle.mls_study.specs.declared.keys.Counts.{Counts}
 use Rattle.mls_study.specs.declared.keys.Launch.{Launch}
 use Rattle.mls_study.specs.Faults.{◌>>=◌}
+use Rattle.mls_study.specs.Names.{duplicate_from, unknown_key, unknown_in}
+use Rattle.mls_study.specs.declared.level.Level.TheVariants as Level
 use Rattle.mls_study.specs.Values.{needed, given_or, integer_in, number_in, strings_from, integers_from}
 
 -- the table that the bytes write
@@ -164,33 +166,10 @@ parameters_from found (item d ds) = do
   parameter ← parameter_in (length found) d
   parameters_from (found ++ parameter ∷ []) ds
 
--- the first place, after the parameters before, whose name stands at an earlier place
-unfoldable pub duplicate_from : List Parameter → List Parameter → Option ℕ
-duplicate_from before [] = None
-duplicate_from before (p ∷ ps) =
-    if list_any (λ (q : Parameter). bytes_eq p.name q.name) before then Some (length before)
-    else duplicate_from (before ++ p ∷ []) ps
-
 -- no fault, or the one that f makes
 abbrev pub refuse : {A : Type 0} → (A → StudyFault) → Option A → Result (Unit {0}) StudyFault
 refuse f None = Ok tt
 refuse f (Some x) = Err (f x)
-
-abbrev pub study_keys : List (List ℕ)
-study_keys = codes "cells" ∷ codes "steps" ∷ codes "groups" ∷ codes "ranks" ∷ codes "clients" ∷ codes "seed" ∷ codes "samples" ∷ codes "fields" ∷ codes "statistics" ∷ codes "thresholds" ∷ codes "slots" ∷ codes "silence" ∷ codes "lives" ∷ codes "parameters" ∷ []
-
-abbrev pub parameter_keys : List (List ℕ)
-parameter_keys = codes "name" ∷ codes "low" ∷ codes "high" ∷ []
-
--- The first key that is none of the known ones. The members of a table ascend, so it is the least in the order of bytes.
-unfoldable pub unknown_key : List (List ℕ) → Members → Option (List ℕ)
-unknown_key known no_members = None
-unknown_key known (member k d ms) = if list_any (bytes_eq k) known then unknown_key known ms else Some k
-
--- the same of the first table that has one
-unfoldable pub unknown_in : Items → Option (List ℕ)
-unknown_in no_items = None
-unknown_in (item d ds) = elim (option_and_then (unknown_key parameter_keys) (as_table d)) [ Some k ↦ Some k | None ↦ unknown_in ds ]
 
 -- the number of fields
 abbrev pub field_count : Choices → ℕ
@@ -219,7 +198,7 @@ study_in ms = do
   tables ← needed Parameters tables_in (get_member (codes "parameters") ms)
   parameters ← parameters_from [] tables
   distinct ← refuse Duplicate (duplicate_from [] parameters)
-  known ← refuse Extra (unknown_key study_keys ms)
+  known ← refuse Extra (unknown_key Level.Study ms)
   all_known ← refuse Extra (unknown_in tables)
   whole counts choices launch parameters
 

@@ -3,6 +3,9 @@
 
 pub mod fault;
 mod keys;
+mod level;
 mod parameter;
+mod places;
 mod tables;
+mod unknown;
 mod values;

@@ -1,11 +1,11 @@
 //! The parameters' tables, and the keys that no study file has.
 
-ghost use Rattle.std.specs.Prelude.{◌≡◌, ℕ, ◌≤◌, ◌<◌, [], length, map, option_map, string_bytes, pos, negsuc, ◌≤ℤ◌, ◌-ℤ◌, IfOk, IsTrue};
+ghost use Rattle.std.specs.Prelude.{◌≡◌, ℕ, ◌≤◌, ◌<◌, [], length, map, option_map, string_bytes, pos, negsuc, ◌≤ℤ◌, ◌-ℤ◌, nat_le, ◌&&◌, IfOk, IsTrue};
 ghost use Rattle.mls_model.specs.Studies.{is_name};
 ghost use Rattle.toml.specs.Data.{get, as_table};
 ghost use Rattle.toml.specs.View.{view, items_view, table_view, array_view};
 ghost use Rattle.mls_study.specs.Faults.{Gives};
-ghost use Rattle.mls_study.specs.StudyFile.{all_tables, tables_in, name_in, high_in, parameter_in, parameters_from};
+ghost use Rattle.mls_study.specs.StudyFile.{all_tables, item_count, tables_in, name_in, high_in, parameter_in, parameters_from};
 ghost use Rattle.mls_study.specs.Parameters.{seen, all_seen};
 ghost use Rattle.mls_study.specs.Values.{needed, integer_in};
 
@@ -28,6 +28,15 @@ fn are_tables(items: &[Value]) -> bool
     true
 }
 
+#[tactic(auto, using(crate::proofs::Texts::item_count_view))]
+fn are_enough(items: &[Value]) -> bool
+    ensures exact { result ≡ (nat_le 1 (item_count (items_view items.now)) && nat_le (item_count (items_view items.now)) 16) }
+    ensures some { IsTrue result → 1 ≤ length items.now }
+    ensures few { IsTrue result → length items.now ≤ 16 }
+{
+    1 <= items.len() && items.len() <= 16
+}
+
 /// One to sixteen tables.
 #[tactic(auto, unfolding(crate::specs::StudyFile::tables_in))]
 pub fn tables(value: &Value) -> Result<&[Value], StudyFault>
@@ -39,7 +48,7 @@ pub fn tables(value: &Value) -> Result<&[Value], StudyFault>
     if !are_tables(items) {
         return Err(StudyFault::Kind { key: Key::Parameters });
     }
-    if 1 <= items.len() && items.len() <= 16 {
+    if are_enough(items) {
         Ok(items)
     } else {
         Err(StudyFault::Range { key: Key::Parameters })
