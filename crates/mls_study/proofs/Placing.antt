@@ -1,5 +1,5 @@
 -- Places of names, one parameter after another.
-use Rattle.std.proofs.Common.{◌≡◌, ℕ, ◌<◌, ◌+◌, Bool, true, false, ◌||◌, cond, List, [], ◌∷◌, ◌++◌, length, map, take, drop, get_or, position, not, nat_lt, Option, Some, None, is_some, option_map, string_bytes, bytes_eq, refl, ap, sym, ◌∙◌, arith, suc, zero, true≢false, length-take}
+use Rattle.std.proofs.Common.{◌≡◌, ℕ, ◌<◌, ◌+◌, ◌↔◌, IsNone, Bool, true, false, ◌||◌, cond, List, [], ◌∷◌, ◌++◌, length, map, take, drop, get_or, position, not, nat_lt, Option, Some, None, is_some, option_map, string_bytes, bytes_eq, refl, ap, sym, ◌∙◌, arith, suc, zero, true≢false, length-take}
 use Rattle.std.proofs.lemmas.Bool.Decides.{nat_tests}
 use Rattle.std.proofs.lemmas.List.{take_more, drop_more, map_push, length-map}
 use Rattle.std.proofs.lemmas.Slice.Eq.{bytes_eq-Decides}
@@ -79,3 +79,8 @@ module _ (xs : List Kept) (i : ℕ) (x : Kept) (within : i < length xs) (is : x 
   pub duplicate_later : list_any (is_called (string_bytes x.name)) (all_seen (take i xs)) ≡ false → duplicate_from (all_seen (take (i + 1) xs)) (all_seen (drop (i + 1) xs)) ≡ duplicate_from (all_seen (take i xs)) (all_seen (drop i xs))
   unfolding duplicate_from
   duplicate_later called = rw (seen_drop, called, seen_take) refl
+
+-- no element is found exactly where none passes
+pub none_passes : {A : Type 0} (p : A → Bool) (xs : List A) (found : Option ℕ) → found ≡ position p xs → IsNone found ↔ (list_any p xs ≡ false)
+none_passes p xs None e = (λ _. sym (is_some_position p xs) ∙ ap is_some (sym e), λ _. refl)
+none_passes p xs (Some n) e = (λ none. absurd (true≢false none), λ h. absurd (true≢false (ap is_some e ∙ is_some_position p xs ∙ h)))

@@ -1,8 +1,11 @@
 -- Comparing texts, and lists of two or fewer that rise.
-use Rattle.std.proofs.Common.{◌≡◌, ℕ, ◌≤◌, ◌<◌, ◌-◌, ◌+◌, Bool, true, false, ◌&&◌, ◌||◌, ◌==◌, cond, List, [], ◌∷◌, length, map, drop, get_or, String, Global, string_bytes, refl, ap, sym, ◌∙◌, arith, length-drop, bytes_eq}
+use Rattle.std.proofs.Common.{◌≡◌, ℕ, suc, inl, inr, nat_le, Fits, w16, ◌≤◌, ◌<◌, ◌-◌, ◌+◌, Bool, true, false, ◌&&◌, ◌||◌, ◌==◌, cond, List, [], ◌∷◌, length, map, drop, get_or, String, Global, string_bytes, refl, ap, sym, ◌∙◌, arith, length-drop, bytes_eq}
+use Rattle.std.proofs.lemmas.Bool.{le-leb, cases_Bool}
+use Rattle.std.proofs.lemmas.Str.{IsUtf8-from_is_utf8, is_utf8-from_IsUtf8}
+use Rattle.std.specs.Str.{is_utf8, IsUtf8}
 use Rattle.std.proofs.lemmas.Bool.Decides.{nat_tests}
 use Rattle.std.proofs.lemmas.List.{at_drop_more}
-use Rattle.std.specs.List.{list_any}
+use Rattle.std.specs.List.{list_any, list_all}
 use Rattle.std.specs.Map.{keys_of}
 use Rattle.toml.specs.View.{items_view, members_view}
 use Rattle.toml.specs.declared.value.Value.{Value}
@@ -54,3 +57,25 @@ item_count_view (v ∷ vs) = omega (arith, item_count_view vs)
 pub keys_view : (es : List (String Global × Value)) → map string_bytes (keys_of es) ≡ member_keys (members_view es)
 keys_view [] = refl
 keys_view (e ∷ es) = ap (λ ks. string_bytes e.0 ∷ ks) (keys_view es)
+
+
+-- numbers of 16 bits are up to 65535
+pub all_fit : (xs : List ℕ) → ((i : ℕ) → Fits w16 (get_or xs i 0)) → list_all (λ t. nat_le t 65535) xs ≡ true
+all_fit [] fits = refl
+all_fit (x ∷ xs) fits =
+    let first : Fits w16 x = fits 0 in
+    let here : x ≤ 65535 = omega arith in
+    rw (le-leb x 65535 here) (all_fit xs (λ i. fits (suc i)))
+
+-- bytes that are UTF-8, and bytes that aren't
+pub is_utf8_true : (bs : List ℕ) → IsUtf8 bs → is_utf8 bs ≡ true
+is_utf8_true bs h = is_utf8-from_IsUtf8 bs h
+
+pub is_utf8_false : (bs : List ℕ) → ¬ IsUtf8 bs → is_utf8 bs ≡ false
+is_utf8_false bs h =
+    elim (cases_Bool (is_utf8 bs)) [
+      | inl t ↦ absurd (h (IsUtf8-from_is_utf8 bs t))
+      | inr f ↦ f
+    ]
+
+pub ruleset utf8_laws = (is_utf8_true, is_utf8_false)

@@ -4,7 +4,7 @@ use Rattle.std.specs.List.{list_any, list_all}
 use Rattle.std.specs.Str.{is_utf8}
 use Rattle.toml.specs.Data.{Data, Items, no_items, item, Members, no_members, member, get, get_member, as_str, as_array, as_table}
 use Rattle.toml.specs.Parse.{parse_document}
-use Rattle.mls_model.specs.Studies.{Study, Parameter, rises, is_name, are_distinct, each_once}
+use Rattle.mls_model.specs.Studies.{Sizes, Study, Parameter, rises, is_name, are_distinct, each_once}
 use Rattle.mls_model.specs.declared.studies.Key.{Key}
 use Rattle.mls_model.specs.declared.studies.Key.TheVariants.{Cells, Steps, Groups, Ranks, Clients, Seed, Samples, Fields, Statistics, Thresholds, Slots, Silence, Lives, Parameters, ParamName, ParamLow, ParamHigh}
 use Rattle.mls_model.specs.declared.studies.Statistic.{Statistic}
@@ -14,6 +14,7 @@ use Rattle.mls_study.specs.declared.fault.StudyFault.{StudyFault}
 use Rattle.mls_study.specs.declared.fault.StudyFault.TheVariants.{NotToml, Missing, Kind, Range, Duplicate, Extra, Product}
 use Rattle.mls_study.specs.declared.keys.Counts.{Counts}
 use Rattle.mls_study.specs.declared.keys.Launch.{Launch}
+use Rattle.mls_study.specs.Choices.{Choices, field_count}
 use Rattle.mls_study.specs.Faults.{◌>>=◌}
 use Rattle.mls_study.specs.Names.{duplicate_from, unknown_key, unknown_in}
 use Rattle.mls_study.specs.declared.level.Level.TheVariants as Level
@@ -28,8 +29,8 @@ counts_of ms = do
   cells ← needed Cells (number_in Cells 1 1048576) (get_member (codes "cells") ms)
   steps ← needed Steps (number_in Steps 1 4096) (get_member (codes "steps") ms)
   groups ← needed Groups (number_in Groups 1 65535) (get_member (codes "groups") ms)
-  ranks ← given_or 1 (number_in Ranks 1 (min 64 cells)) (get_member (codes "ranks") ms)
-  clients ← given_or 1 (number_in Clients 1 (min 64 cells)) (get_member (codes "clients") ms)
+  ranks ← given_or 1 (number_in Ranks 1 (min cells 64)) (get_member (codes "ranks") ms)
+  clients ← given_or 1 (number_in Clients 1 (min cells 64)) (get_member (codes "clients") ms)
   Ok (record { cells = cells; steps = steps; groups = groups; ranks = ranks; clients = clients })
 
 unfoldable pub seed_in : Data → Result ℕ StudyFault
@@ -101,14 +102,6 @@ thresholds_in signed d = do
   values ← integers_from Thresholds [] items
   if are_thresholds signed values then Ok (map (shift signed) values) else Err (Range Thresholds)
 
--- what the keys from seed to thresholds say
-pub record Choices : Type 0 where
-  pub seed : ℕ
-  pub signed : Bool
-  pub field_names : Option (List (List ℕ))
-  pub statistics : List Statistic
-  pub thresholds : List ℕ
-
 unfoldable pub choices_of : Members → Result Choices StudyFault
 choices_of ms = do
   seed ← given_or 0 seed_in (get_member (codes "seed") ms)
@@ -171,23 +164,19 @@ abbrev pub refuse : {A : Type 0} → (A → StudyFault) → Option A → Result 
 refuse f None = Ok tt
 refuse f (Some x) = Err (f x)
 
--- the number of fields
-abbrev pub field_count : Choices → ℕ
-field_count choices = unwrap_or (option_map length choices.field_names) 1
+-- the sizes of these parts, with this number of parameters
+abbrev pub sizes_with : Counts → Choices → Launch → ℕ → Sizes
+sizes_with counts choices launch parameters = record { cells = counts.cells; steps = counts.steps; groups = counts.groups; parameters = parameters; ranks = counts.ranks; clients = counts.clients; slots = launch.slots; silence = launch.silence; lives = launch.lives; thresholds = choices.thresholds; signed = choices.signed; fields = field_count choices }
+
+abbrev pub study_with : Counts → Choices → Launch → List Parameter → Study
+study_with counts choices launch parameters = record { sizes = sizes_with counts choices launch (length parameters); seed = choices.seed; field_names = choices.field_names; statistics = choices.statistics; parameters = parameters }
 
 -- the study of these parts, where no product of its numbers is too large
 unfoldable pub whole : Counts → Choices → Launch → List Parameter → Result Study StudyFault
 whole counts choices launch parameters =
-    let fields = field_count choices in
-    if nat_lt 1048576 (counts.cells * counts.steps * fields) then Err (Product CellsSteps)
-    else if nat_lt 1073741824 (counts.groups * counts.steps * fields * counts.ranks) then Err (Product GroupsStepsRanks)
-    else Ok (record {
-      sizes = record { cells = counts.cells; steps = counts.steps; groups = counts.groups; parameters = length parameters; ranks = counts.ranks; clients = counts.clients; slots = launch.slots; silence = launch.silence; lives = launch.lives; thresholds = choices.thresholds; signed = choices.signed; fields = fields };
-      seed = choices.seed;
-      field_names = choices.field_names;
-      statistics = choices.statistics;
-      parameters = parameters
-    })
+    if nat_lt 1048576 (counts.cells * counts.steps * field_count choices) then Err (Product CellsSteps)
+    else if nat_lt 1073741824 (counts.groups * counts.steps * field_count choices * counts.ranks) then Err (Product GroupsStepsRanks)
+    else Ok (study_with counts choices launch parameters)
 
 -- the study that the table writes
 unfoldable pub study_in : Members → Result Study StudyFault

@@ -1,6 +1,6 @@
 //! The keys of a study file, but its parameters.
 
-ghost use Rattle.std.specs.Prelude.{◌≡◌, ℕ, ◌≤◌, ◌<◌, ◌^◌, [], length, map, option_map, string_bytes, IfOk, IfSome, IsTrue};
+ghost use Rattle.std.specs.Prelude.{◌≡◌, ℕ, ◌≤◌, ◌<◌, ◌^◌, [], length, map, option_map, string_bytes, IfOk, IfSome, IsTrue, nat_le};
 ghost use Rattle.std.specs.List.{list_any, list_all};
 ghost use Rattle.toml.specs.View.{view, table_view};
 ghost use Rattle.mls_model.specs.Numbers.{same_bytes};
@@ -22,6 +22,17 @@ pub struct Counts {
     pub groups: u32,
     pub ranks: u32,
     pub clients: u32,
+}
+
+/// What a study file says of seed, samples, fields, statistics and thresholds.
+#[derive(Debug, Drop)]
+pub struct Choices {
+    pub seed: u64,
+    pub signed: bool,
+    pub field_names: Option<Vec<String>>,
+    pub statistics: Vec<Statistic>,
+    /// Shifted values.
+    pub thresholds: Vec<u16>,
 }
 
 /// How groups are launched.
@@ -246,7 +257,8 @@ fn shifted_values(alloc: Global, signed: bool, values: &[i64]) -> Result<Vec<u16
 }
 
 fn do_rise(numbers: &[u16]) -> bool
-    ensures { result ≡ rises numbers.now }
+    ensures value { result ≡ rises numbers.now }
+    ensures fit { IsTrue (list_all (λ t. nat_le t 65535) numbers.now) }
 {
     for i in 1..numbers.len() {
         if numbers[i] <= numbers[i - 1] {
@@ -262,6 +274,7 @@ pub fn thresholds(alloc: Global, signed: bool, value: &Value) -> Result<Vec<u16>
     ensures exact { Gives (λ v. v.items) result (thresholds_in signed (view value.now)) }
     ensures few { IfOk result (λ v. length v.items ≤ 8) }
     ensures rising { IfOk result (λ v. IsTrue (rises v.items)) }
+    ensures fit { IfOk result (λ v. IsTrue (list_all (λ t. nat_le t 65535) v.items)) }
 {
     let items = value.as_array().ok_or(StudyFault::Kind { key: Key::Thresholds })?;
     let values = integers(alloc, items, Key::Thresholds)?;

@@ -6,6 +6,8 @@ mod keys;
 mod level;
 mod parameter;
 mod places;
+mod read;
+pub mod study;
 mod tables;
 mod unknown;
 mod values;
