@@ -1,5 +1,5 @@
 -- Places of names, one parameter after another.
-use Rattle.std.proofs.Common.{◌≡◌, ℕ, ◌<◌, ◌+◌, ◌↔◌, IsNone, Bool, true, false, ◌||◌, cond, List, [], ◌∷◌, ◌++◌, length, map, take, drop, get_or, position, not, nat_lt, Option, Some, None, is_some, option_map, string_bytes, bytes_eq, refl, ap, sym, ◌∙◌, arith, suc, zero, true≢false, length-take}
+use Rattle.std.proofs.Common.{◌≡◌, ℕ, ◌<◌, ◌+◌, ◌↔◌, IsNone, Bool, true, false, ◌||◌, cond, List, [], ◌∷◌, ◌++◌, length, take, drop, get_or, position, not, nat_lt, Option, Some, None, is_some, option_map, string_bytes, bytes_eq, refl, ap, sym, ◌∙◌, arith, suc, true≢false, length-take}
 use Rattle.std.proofs.lemmas.Bool.Decides.{nat_tests}
 use Rattle.std.proofs.lemmas.List.{take_more, drop_more, map_push, length-map}
 use Rattle.std.proofs.lemmas.Slice.Eq.{bytes_eq-Decides}

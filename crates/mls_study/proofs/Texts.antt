@@ -1,5 +1,5 @@
 -- Comparing texts, and lists of two or fewer that rise.
-use Rattle.std.proofs.Common.{◌≡◌, ℕ, suc, inl, inr, nat_le, Fits, w16, ◌≤◌, ◌<◌, ◌-◌, ◌+◌, Bool, true, false, ◌&&◌, ◌||◌, ◌==◌, cond, List, [], ◌∷◌, length, map, drop, get_or, String, Global, string_bytes, refl, ap, sym, ◌∙◌, arith, length-drop, bytes_eq}
+use Rattle.std.proofs.Common.{◌≡◌, ℕ, suc, inl, inr, nat_le, Fits, w16, ◌≤◌, ◌<◌, ◌-◌, ◌+◌, Bool, true, false, ◌&&◌, ◌||◌, ◌==◌, List, [], ◌∷◌, length, map, drop, get_or, String, Global, string_bytes, refl, ap, sym, ◌∙◌, arith, length-drop, bytes_eq}
 use Rattle.std.proofs.lemmas.Bool.{le-leb, cases_Bool}
 use Rattle.std.proofs.lemmas.Str.{IsUtf8-from_is_utf8, is_utf8-from_IsUtf8}
 use Rattle.std.specs.Str.{is_utf8, IsUtf8}
@@ -46,7 +46,7 @@ pub has_text_step : (text : List ℕ) (texts : List (String Global)) (i : ℕ) (
 has_text_step text texts i other b within is answered =
     at_drop_more (λ (xs : List (String Global)). list_any (same_bytes text) (map string_bytes xs)) texts i other within
     ∙ ap (λ c. c || list_any (same_bytes text) (map string_bytes (drop (i + 1) texts)))
-        (same_bytes_is text (string_bytes (get_or texts i other)) ∙ ap (λ (s : String Global). bytes_eq (string_bytes s) text) (sym is) ∙ sym answered)
+    (same_bytes_is text (string_bytes (get_or texts i other)) ∙ ap (λ (s : String Global). bytes_eq (string_bytes s) text) (sym is) ∙ sym answered)
 
 -- how many items an array has
 pub item_count_view : (vs : List Value) → item_count (items_view vs) ≡ length vs
@@ -57,7 +57,6 @@ item_count_view (v ∷ vs) = omega (arith, item_count_view vs)
 pub keys_view : (es : List (String Global × Value)) → map string_bytes (keys_of es) ≡ member_keys (members_view es)
 keys_view [] = refl
 keys_view (e ∷ es) = ap (λ ks. string_bytes e.0 ∷ ks) (keys_view es)
-
 
 -- numbers of 16 bits are up to 65535
 pub all_fit : (xs : List ℕ) → ((i : ℕ) → Fits w16 (get_or xs i 0)) → list_all (λ t. nat_le t 65535) xs ≡ true

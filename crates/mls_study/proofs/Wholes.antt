@@ -1,5 +1,5 @@
 -- The parts of a study file make a valid study.
-use Rattle.std.proofs.Common.{◌≡◌, ℕ, ◌≤◌, ◌<◌, ◌+◌, ◌*◌, Bool, true, false, ◌&&◌, nat_le, List, [], ◌∷◌, ◌++◌, length, map, get_or, take, Option, None, Some, option_map, unwrap_or, is_some, if◌then◌else◌, ◌||◌, inl, inr, IfSome, IsTrue, Result, Err, bytes_eq, string_bytes, refl, sym, ap, ◌∙◌, subst, true≢false, arith}
+use Rattle.std.proofs.Common.{◌≡◌, ℕ, ◌≤◌, ◌<◌, ◌*◌, Bool, true, false, ◌&&◌, nat_le, List, [], ◌∷◌, ◌++◌, length, map, get_or, take, Option, None, Some, option_map, unwrap_or, is_some, if◌then◌else◌, ◌||◌, inl, inr, IfSome, IsTrue, Err, refl, sym, ap, ◌∙◌, subst, true≢false, arith}
 use Rattle.std.proofs.lemmas.Bool.{and_parts, cases_Bool, lt-ltb, le-ltb, leb-true}
 use Rattle.std.proofs.lemmas.List.Folds.{list_any-append}
 use Rattle.std.proofs.lemmas.Slice.Eq.{bytes_eq-Decides}
@@ -7,15 +7,14 @@ use Rattle.std.specs.List.{list_any, list_all, AllByRecursion}
 use Rattle.mls_base.specs.Shapes.{padded, sizes_of, AreNumbers}
 use Rattle.mls_base.specs.declared.numbers.Numbers.{Numbers}
 use Rattle.mls_model.specs.Numbers.{same_bytes}
-use Rattle.mls_model.specs.Studies.{Sizes, AreSizes, Study, IsStudy, Parameter, IsParameter, is_name, are_distinct, each_once}
+use Rattle.mls_model.specs.Studies.{Sizes, AreSizes, IsStudy, Parameter, IsParameter, is_name, are_distinct, each_once}
 use Rattle.mls_model.specs.declared.studies.Statistic.{Statistic}
 use Rattle.mls_model.specs.declared.studies.Product.TheVariants.{GroupsStepsRanks}
 use Rattle.mls_study.specs.Choices.{Choices, field_count}
 use Rattle.mls_study.specs.Names.{is_called, duplicate_from}
-use Rattle.mls_study.specs.Parameters.{seen, all_seen}
+use Rattle.mls_study.specs.Parameters.{all_seen}
 use Rattle.mls_study.specs.Ranges.{AreCounts, AreChoices, AreLaunch}
 use Rattle.mls_study.specs.StudyFile.{are_field_names, are_statistics, sizes_with, study_with, whole}
-use Rattle.mls_study.specs.declared.fault.StudyFault.{StudyFault}
 use Rattle.mls_study.specs.declared.fault.StudyFault.TheVariants.{Product}
 use Rattle.mls_study.specs.declared.keys.Counts.{Counts}
 use Rattle.mls_study.specs.declared.keys.Launch.{Launch}
@@ -56,7 +55,7 @@ pub numbers_are : (n : Numbers) (xs : List ℕ) (s : Sizes) → length xs ≤ 8 
 numbers_are n xs s few len is same sizes = record {
   few = omega arith;
   behind = is ∙ ap padded (sym (taken xs n.thresholds n.threshold few len is));
-  sizes = subst AreSizes (sym same) sizes
+  sizes = subst AreSizes (sym same) sizes;
 }
 
 -- the second product is too large
@@ -99,7 +98,7 @@ sizes_are c o l parameters fields counts choices launch some few is some_fields 
   some_fields = subst (λ (f : ℕ). 1 ≤ f) is some_fields;
   fields = subst (λ (f : ℕ). f ≤ 4) is few_fields;
   mesh = omega (arith, ap (λ f. c.cells * (c.steps * f)) is);
-  marks = omega (arith, ap (λ f. c.groups * (c.steps * f) * c.ranks) is)
+  marks = omega (arith, ap (λ f. c.groups * (c.steps * f) * c.ranks) is);
 }
 
 named_is : (o : Option (List (List ℕ))) → IfSome o (λ names. IsTrue (are_field_names names)) → IfSome o (λ names. (length names ≡ unwrap_or (option_map length o) 1) × IsTrue (list_all is_name names) × IsTrue (are_distinct names))
@@ -148,11 +147,13 @@ distinct_from before (p ∷ ps) h =
     let (fresh, later) = fresh_case (list_any (is_called p.name) before) (length before) (duplicate_from (before ++ p ∷ []) ps) h in
     let (distinct, apart) = distinct_from (before ++ p ∷ []) ps later in
     let itself : list_any (is_called p.name) (before ++ p ∷ []) ≡ true =
-        list_any-append (is_called p.name) before (p ∷ []) ∙ or_right (list_any (is_called p.name) before) (is_called p.name p || false) (or_left (is_called p.name p) false ((bytes_eq-Decides p.name p.name).1 refl)) in
-    let alone : list_any (same_bytes p.name) (names_of ps) ≡ false = apart p.name itself in
-    (rw alone distinct, λ n earlier.
-        let kept : list_any (is_called n) (before ++ p ∷ []) ≡ true = list_any-append (is_called n) before (p ∷ []) ∙ or_left (list_any (is_called n) before) (is_called n p || false) earlier in
-        or_none (same_bytes n p.name) (list_any (same_bytes n) (names_of ps)) (not_same n p.name before earlier fresh) (apart n kept))
+    list_any-append (is_called p.name) before (p ∷ []) ∙ or_right (list_any (is_called p.name) before) (is_called p.name p || false) (or_left (is_called p.name p) false ((bytes_eq-Decides p.name p.name).1 refl)) in
+    let alone : list_any (same_bytes p.name) (names_of ps) ≡ false = apart p.name itself in (
+      rw alone distinct,
+      λ n earlier.
+          let kept : list_any (is_called n) (before ++ p ∷ []) ≡ true = list_any-append (is_called n) before (p ∷ []) ∙ or_left (list_any (is_called n) before) (is_called n p || false) earlier in
+          or_none (same_bytes n p.name) (list_any (same_bytes n) (names_of ps)) (not_same n p.name before earlier fresh) (apart n kept),
+    )
 
 -- the statistics of a study
 once : (found : List Statistic) → IsTrue (are_statistics found) → (1 ≤ length found) × IsTrue (each_once found)
@@ -173,7 +174,7 @@ study_is c o l ps sizes choices distinct =
       statistics = apart;
       count = refl;
       parameters = all_lawful ps;
-      names = (distinct_from [] (all_seen ps) distinct).0
+      names = (distinct_from [] (all_seen ps) distinct).0;
     }
 
 -- the numbers that the code puts together, and their sizes

@@ -1,5 +1,5 @@
 -- The ranges that the parts of a study file are in once they are read.
-use Rattle.std.specs.Prelude.{ℕ, ◌≤◌, ◌<◌, ◌^◌, min, length, IfSome, IsTrue, nat_le}
+use Rattle.std.specs.Prelude.{◌≤◌, ◌<◌, ◌^◌, min, length, IfSome, IsTrue, nat_le}
 use Rattle.std.specs.List.{list_all}
 use Rattle.mls_model.specs.Studies.{rises}
 use Rattle.mls_study.specs.declared.keys.Counts.{Counts}

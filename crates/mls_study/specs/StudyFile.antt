@@ -1,8 +1,8 @@
 -- The study that bytes spell, or their first fault. The keys are tried in the order of a study file's table.
-use Rattle.std.specs.Prelude.{ℕ, ◌+◌, ◌*◌, Bool, true, false, not, ◌&&◌, List, [], ◌∷◌, ◌++◌, length, map, min, codes, bytes_eq, ℤ, pos, negsuc, ◌+ℤ◌, ◌-ℤ◌, int_le, nat_abs, nat_le, nat_lt, Option, Some, None, is_some, option_map, option_and_then, unwrap_or, Result, Ok, Err, ok_or, if◌then◌else◌}
-use Rattle.std.specs.List.{list_any, list_all}
+use Rattle.std.specs.Prelude.{ℕ, ◌+◌, ◌*◌, Bool, true, false, not, ◌&&◌, List, [], ◌∷◌, ◌++◌, length, map, min, codes, bytes_eq, ℤ, pos, negsuc, ◌+ℤ◌, ◌-ℤ◌, int_le, nat_abs, nat_le, nat_lt, Option, Some, None, is_some, option_and_then, Result, Ok, Err, ok_or, if◌then◌else◌}
+use Rattle.std.specs.List.{list_all}
 use Rattle.std.specs.Str.{is_utf8}
-use Rattle.toml.specs.Data.{Data, Items, no_items, item, Members, no_members, member, get, get_member, as_str, as_array, as_table}
+use Rattle.toml.specs.Data.{Data, Items, no_items, item, Members, get, get_member, as_str, as_array, as_table}
 use Rattle.toml.specs.Parse.{parse_document}
 use Rattle.mls_model.specs.Studies.{Sizes, Study, Parameter, rises, is_name, are_distinct, each_once}
 use Rattle.mls_model.specs.declared.studies.Key.{Key}
@@ -11,7 +11,7 @@ use Rattle.mls_model.specs.declared.studies.Statistic.{Statistic}
 use Rattle.mls_model.specs.declared.studies.Statistic.TheVariants.{Power, Extrema, Exceed, Sobol}
 use Rattle.mls_model.specs.declared.studies.Product.TheVariants.{CellsSteps, GroupsStepsRanks}
 use Rattle.mls_study.specs.declared.fault.StudyFault.{StudyFault}
-use Rattle.mls_study.specs.declared.fault.StudyFault.TheVariants.{NotToml, Missing, Kind, Range, Duplicate, Extra, Product}
+use Rattle.mls_study.specs.declared.fault.StudyFault.TheVariants.{NotToml, Kind, Range, Duplicate, Extra, Product}
 use Rattle.mls_study.specs.declared.keys.Counts.{Counts}
 use Rattle.mls_study.specs.declared.keys.Launch.{Launch}
 use Rattle.mls_study.specs.Choices.{Choices, field_count}

@@ -1,5 +1,5 @@
 -- How the value of one key is read, by the kinds and ranges that many keys share.
-use Rattle.std.specs.Prelude.{ℕ, Bool, ◌&&◌, List, [], ◌∷◌, ◌++◌, ℤ, pos, nat_abs, int_le, Option, Some, None, Result, Ok, Err, ok_or, if◌then◌else◌}
+use Rattle.std.specs.Prelude.{ℕ, ◌&&◌, List, [], ◌∷◌, ◌++◌, ℤ, pos, nat_abs, int_le, Option, Some, None, Result, Ok, Err, ok_or, if◌then◌else◌}
 use Rattle.toml.specs.Data.{Data, Items, no_items, item, as_integer, as_str}
 use Rattle.mls_model.specs.declared.studies.Key.{Key}
 use Rattle.mls_study.specs.declared.fault.StudyFault.{StudyFault}

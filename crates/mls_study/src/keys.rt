@@ -58,7 +58,9 @@ pub fn seed(value: &Value) -> Result<u64, StudyFault>
 pub fn samples(value: &Value) -> Result<bool, StudyFault>
     ensures { result ≡ samples_in (view value.now) }
 {
-    let text = value.as_str().ok_or(StudyFault::Kind { key: Key::Samples })?;
+    let text = value
+        .as_str()
+        .ok_or(StudyFault::Kind { key: Key::Samples })?;
     if text == "u16" {
         Ok(false)
     } else if text == "i16" {
@@ -137,7 +139,9 @@ pub fn fields(alloc: Global, value: &Value) -> Result<Option<Vec<String>>, Study
     ensures exact { Gives (λ o. option_map (λ v. map string_bytes v.items) o) result (fields_in (view value.now)) }
     ensures named { IfOk result (λ o. IfSome o (λ v. IsTrue (are_field_names (map string_bytes v.items)))) }
 {
-    let items = value.as_array().ok_or(StudyFault::Kind { key: Key::Fields })?;
+    let items = value
+        .as_array()
+        .ok_or(StudyFault::Kind { key: Key::Fields })?;
     let names = strings(alloc, items, Key::Fields)?;
     if are_names(&names) {
         Ok(Some(names))
@@ -208,13 +212,19 @@ pub fn statistics(alloc: Global, value: &Value) -> Result<Vec<Statistic>, StudyF
     ensures exact { Gives (λ v. v.items) result (statistics_in (view value.now)) }
     ensures lawful { IfOk result (λ v. IsTrue (are_statistics v.items)) }
 {
-    let items = value.as_array().ok_or(StudyFault::Kind { key: Key::Statistics })?;
+    let items = value.as_array().ok_or(StudyFault::Kind {
+        key: Key::Statistics,
+    })?;
     let texts = strings(alloc, items, Key::Statistics)?;
-    let found = statistics_of(alloc, &texts)?.ok_or(StudyFault::Range { key: Key::Statistics })?;
+    let found = statistics_of(alloc, &texts)?.ok_or(StudyFault::Range {
+        key: Key::Statistics,
+    })?;
     if are_lawful(&found) {
         Ok(found)
     } else {
-        Err(StudyFault::Range { key: Key::Statistics })
+        Err(StudyFault::Range {
+            key: Key::Statistics,
+        })
     }
 }
 
@@ -276,15 +286,21 @@ pub fn thresholds(alloc: Global, signed: bool, value: &Value) -> Result<Vec<u16>
     ensures rising { IfOk result (λ v. IsTrue (rises v.items)) }
     ensures fit { IfOk result (λ v. IsTrue (list_all (λ t. nat_le t 65535) v.items)) }
 {
-    let items = value.as_array().ok_or(StudyFault::Kind { key: Key::Thresholds })?;
+    let items = value.as_array().ok_or(StudyFault::Kind {
+        key: Key::Thresholds,
+    })?;
     let values = integers(alloc, items, Key::Thresholds)?;
     if 8 < values.len() || !are_in_range(signed, &values) {
-        return Err(StudyFault::Range { key: Key::Thresholds });
+        return Err(StudyFault::Range {
+            key: Key::Thresholds,
+        });
     }
     let shifted = shifted_values(alloc, signed, &values)?;
     if do_rise(&shifted) {
         Ok(shifted)
     } else {
-        Err(StudyFault::Range { key: Key::Thresholds })
+        Err(StudyFault::Range {
+            key: Key::Thresholds,
+        })
     }
 }

@@ -15,10 +15,7 @@ use std::alloc::Global;
 
 /// The map from the parameters' names to their places, where no name stands twice.
 #[tactic(auto, unfolding(crate::specs::Names::duplicate_from))]
-pub fn places(
-    alloc: Global,
-    parameters: &[Parameter],
-) -> Result<IndexMap<String, u32>, StudyFault>
+pub fn places(alloc: Global, parameters: &[Parameter]) -> Result<IndexMap<String, u32>, StudyFault>
     requires { length parameters.now ≤ 16 }
     ensures exact { Gives (λ _. tt) result (refuse Duplicate (duplicate_from [] (all_seen parameters.now))) }
     ensures found { IfOk result (λ m. (name : List ℕ) → get_by_text m name ≡ place_in name (all_seen parameters.now)) }
@@ -27,7 +24,9 @@ pub fn places(
     for (place, parameter) in parameters.iter().enumerate() {
         let name = parameter.name.as_str();
         if places.contains_key(name) {
-            return Err(StudyFault::Duplicate { place: place as u32 });
+            return Err(StudyFault::Duplicate {
+                place: place as u32,
+            });
         }
         places.insert(String::from_str(alloc, name)?, place as u32)?;
     }

@@ -18,7 +18,7 @@ ghost use Rattle.mls_model.specs.declared.studies.Key.TheVariants as Key;
 ghost use Rattle.mls_study.specs.declared.fault.StudyFault.TheVariants.{Extra};
 
 use crate::fault::{Name, StudyFault};
-use crate::keys::{fields, samples, seed, statistics, thresholds, Choices, Counts, Launch};
+use crate::keys::{Choices, Counts, Launch, fields, samples, seed, statistics, thresholds};
 use crate::level::Level;
 use crate::parameter::Parameter;
 use crate::places::places;

@@ -44,14 +44,20 @@ pub fn tables(value: &Value) -> Result<&[Value], StudyFault>
     ensures some { IfOk result (λ items. 1 ≤ length items.now) }
     ensures few { IfOk result (λ items. length items.now ≤ 16) }
 {
-    let items = value.as_array().ok_or(StudyFault::Kind { key: Key::Parameters })?;
+    let items = value.as_array().ok_or(StudyFault::Kind {
+        key: Key::Parameters,
+    })?;
     if !are_tables(items) {
-        return Err(StudyFault::Kind { key: Key::Parameters });
+        return Err(StudyFault::Kind {
+            key: Key::Parameters,
+        });
     }
     if are_enough(items) {
         Ok(items)
     } else {
-        Err(StudyFault::Range { key: Key::Parameters })
+        Err(StudyFault::Range {
+            key: Key::Parameters,
+        })
     }
 }
 
@@ -99,7 +105,12 @@ pub fn parameter(alloc: Global, place: u32, value: &Value) -> Result<Parameter, 
     let low_key = Key::ParamLow { place };
     let high_key = Key::ParamHigh { place };
     let name = name(alloc, needed_member(value, "name", name_key)?, name_key)?;
-    let low = integer(needed_member(value, "low", low_key)?, low_key, -4294967296, 4294967295)?;
+    let low = integer(
+        needed_member(value, "low", low_key)?,
+        low_key,
+        -4294967296,
+        4294967295,
+    )?;
     let high = high(needed_member(value, "high", high_key)?, high_key, low)?;
     Ok(Parameter { name, low, high })
 }

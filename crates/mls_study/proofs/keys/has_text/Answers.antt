@@ -1,4 +1,4 @@
-use Rattle.std.proofs.Common.{◌≡◌, Bool, true, false, sym, ◌∙◌, ap, arith, bytes_eq, string_bytes}
+use Rattle.std.proofs.Common.{◌≡◌, true, false, sym, ◌∙◌, ap, arith, bytes_eq, string_bytes}
 use Rattle.mls_study.proofs.Texts.{has_text_step}
 use Rattle.mls_study.proofs.keys.has_text.Goals as goal
 

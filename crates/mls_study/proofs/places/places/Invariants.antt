@@ -7,5 +7,5 @@ use Rattle.mls_study.proofs.places.places.Given as goal
 abbrev pub invariant-loop-place : goal.invariant-loop-place
 invariant-loop-place l = record {
   found : (name : List ℕ) → get_by_text l.places name ≡ place_in name (all_seen (take l.place l.parameters));
-  same : duplicate_from (all_seen (take l.place l.parameters)) (all_seen (drop l.place l.parameters)) ≡ duplicate_from [] (all_seen l.parameters)
+  same : duplicate_from (all_seen (take l.place l.parameters)) (all_seen (drop l.place l.parameters)) ≡ duplicate_from [] (all_seen l.parameters);
 }

@@ -1,7 +1,5 @@
-use Rattle.std.proofs.Common.{◌≡◌, ◌≤◌, ℕ, List, length, ap, ◌∙◌, arith}
-use Rattle.mls_base.specs.Shapes.{padded, sizes_of}
-use Rattle.mls_base.specs.declared.numbers.Numbers.{Numbers}
-use Rattle.mls_model.specs.Studies.{Sizes}
+use Rattle.std.proofs.Common.{◌≡◌, length, ap, ◌∙◌, arith}
+use Rattle.mls_base.specs.Shapes.{padded}
 use Rattle.mls_study.specs.Choices.{Choices, chosen}
 use Rattle.mls_study.specs.StudyFile.{sizes_with}
 use Rattle.mls_study.proofs.Wholes.{numbers_with, numbers_are, same_sizes, taken}

@@ -1,4 +1,4 @@
-use Rattle.std.proofs.Common.{◌≡◌, position, ◌∙◌, ap, bytes_eq}
+use Rattle.std.proofs.Common.{position, ◌∙◌, ap, bytes_eq}
 use Rattle.mls_model.specs.Studies.{Study, Parameter}
 use Rattle.mls_study.proofs.Placing.{none_passes}
 use Rattle.mls_study.proofs.study.Study.place.Goals as goal
