@@ -1,10 +1,9 @@
 -- What the rules say of the sums, and that one more row keeps them.
-use Rattle.std.proofs.Common.{◌≡◌, ℕ, zero, suc, ◌+◌, ◌-◌, ◌*◌, ◌^◌, ◌<◌, ◌≤◌, List, length, slice_index, sym, ap, ◌∙◌, arith, lit≤}
-use Rattle.std.specs.Int.{abs_diff}
+use Rattle.std.proofs.Common.{◌≡◌, ℕ, zero, suc, ◌+◌, ◌-◌, ◌*◌, ◌^◌, ◌<◌, ◌≤◌, List, slice_index, arith}
 use Rattle.std.proofs.lemmas.Nat.{mul-le}
 use Rattle.std.proofs.Math.Nat.{le_of_mul-le-mul_left, mul-le-mul_left, mul-pos}
-use Rattle.mls_cov.specs.Rules.{AreSums, AreProducts, KeepsColumn, KeepsRules, HasRoom, variance_in, covariance_in}
-use Rattle.mls_cov.specs.Steps.{AreSmall, HasSpace, Grew}
+use Rattle.mls_cov.specs.Rules.{AreSums, AreProducts, KeepsRules, HasRoom, variance_in, covariance_in}
+use Rattle.mls_cov.specs.Steps.{HasSpace, Grew}
 use Rattle.mls_cov.proofs.Squares.{spread_more, products_more, mixed_term, below_by_squares, twice_product}
 
 pub sums_more : (n x xx a : ℕ) → a ≤ 65535 → AreSums n x xx → AreSums (n + 1) (x + a) (xx + a * a)
@@ -69,14 +68,14 @@ space_from_room p sums h =
     record {
       outputs = record { first = omega (arith, r.a.first); second = omega (arith, r.b.first); third = omega (arith, r.a.first, r.a.second); fourth = omega (arith, r.b.first, r.b.second) };
       columns = λ k in_p. (
-        let c = r.columns k in_p in
-        record {
-          first = omega (arith, c.sums_in.first);
-          second = omega (arith, c.sums_in.first, c.sums_in.second);
-          third = omega (arith, products_small h.count _ _ _ _ _ (omega arith) r.a c.sums_in c.with_a);
-          fourth = omega (arith, products_small h.count _ _ _ _ _ (omega arith) r.b c.sums_in c.with_b);
-        }
-      );
+          let c = r.columns k in_p in
+          record {
+            first = omega (arith, c.sums_in.first);
+            second = omega (arith, c.sums_in.first, c.sums_in.second);
+            third = omega (arith, products_small h.count _ _ _ _ _ (omega arith) r.a c.sums_in c.with_a);
+            fourth = omega (arith, products_small h.count _ _ _ _ _ (omega arith) r.b c.sums_in c.with_b);
+          }
+          );
     }
 
 -- what a row adds to the sums
@@ -94,15 +93,15 @@ rules_more n p old new row adds h =
       a = rw (g.first, g.third) (sums_more n _ _ a (adds.samples 0) h.a);
       b = rw (g.second, g.fourth) (sums_more n _ _ b (adds.samples 1) h.b);
       columns = λ k in_p. (
-        let c = slice_index row (2 + k) in
-        let column = h.columns k in_p in
-        let grown = adds.columns k in_p in
-        record {
-          sums_in = rw (grown.first, grown.second) (sums_more n _ _ c (adds.samples (2 + k)) column.sums_in);
-          with_a = rw (g.first, g.third, grown.first, grown.second, grown.third) (next_products n _ _ _ _ _ a c h.a column.sums_in column.with_a);
-          with_b = rw (g.second, g.fourth, grown.first, grown.second, grown.fourth) (next_products n _ _ _ _ _ b c h.b column.sums_in column.with_b);
-        }
-      );
+          let c = slice_index row (2 + k) in
+          let column = h.columns k in_p in
+          let grown = adds.columns k in_p in
+          record {
+            sums_in = rw (grown.first, grown.second) (sums_more n _ _ c (adds.samples (2 + k)) column.sums_in);
+            with_a = rw (g.first, g.third, grown.first, grown.second, grown.third) (next_products n _ _ _ _ _ a c h.a column.sums_in column.with_a);
+            with_b = rw (g.second, g.fourth, grown.first, grown.second, grown.fourth) (next_products n _ _ _ _ _ b c h.b column.sums_in column.with_b);
+          }
+          );
     }
 
 -- ---- how large a covariance and a product of variances are

@@ -1,9 +1,8 @@
 -- The sums of a list of rows with one more row.
-use Rattle.std.proofs.Common.{◌≡◌, ℕ, ◌+◌, ◌*◌, ◌<◌, List, [], ◌∷◌, ◌++◌, length, slice_index}
+use Rattle.std.proofs.Common.{◌≡◌, ℕ, ◌+◌, ◌*◌, List, [], ◌∷◌, ◌++◌, length}
 use Rattle.std.specs.List.{AllByRecursion}
 use Rattle.std.proofs.lemmas.List.Sums.{sum_by_push}
-use Rattle.mls_cov.specs.Sums.{sample, sum_of, products_of, HoldsColumn, HoldsSums}
-use Rattle.mls_cov.specs.Steps.{Grew}
+use Rattle.mls_cov.specs.Sums.{sample, sum_of, products_of, HoldsSums}
 use Rattle.mls_cov.proofs.Bounds.{AddsRow}
 
 pub all_push : (P : List ℕ → Type 0) (rows : List (List ℕ)) (row : List ℕ) → AllByRecursion P rows → P row → AllByRecursion P (rows ++ row ∷ [])
@@ -26,13 +25,13 @@ holds_more p old new row rows adds long h =
       aa = products_more 0 0 rows row _ _ g.third h.aa;
       bb = products_more 1 1 rows row _ _ g.fourth h.bb;
       columns = λ k in_p. (
-        let column = h.columns k in_p in
-        let grown = adds.columns k in_p in
-        record {
-          first = sum_more (2 + k) rows row _ _ grown.first column.first;
-          second = products_more (2 + k) (2 + k) rows row _ _ grown.second column.second;
-          with_a = products_more 0 (2 + k) rows row _ _ grown.third column.with_a;
-          with_b = products_more 1 (2 + k) rows row _ _ grown.fourth column.with_b;
-        }
-      );
+          let column = h.columns k in_p in
+          let grown = adds.columns k in_p in
+          record {
+            first = sum_more (2 + k) rows row _ _ grown.first column.first;
+            second = products_more (2 + k) (2 + k) rows row _ _ grown.second column.second;
+            with_a = products_more 0 (2 + k) rows row _ _ grown.third column.with_a;
+            with_b = products_more 1 (2 + k) rows row _ _ grown.fourth column.with_b;
+          }
+          );
     }

@@ -1,9 +1,7 @@
 -- The inequality of Cauchy and Schwarz for every list of rows.
-use Rattle.std.proofs.Common.{◌≡◌, ℕ, zero, suc, ◌+◌, ◌-◌, ◌*◌, ◌^◌, ◌<◌, ◌≤◌, List, [], ◌∷◌, length, map, Bool, ℤ, pos, ◌-ℤ◌, ap, ◌∙◌, refl, sym, subst, arith}
+use Rattle.std.proofs.Common.{◌≡◌, ℕ, zero, suc, ◌+◌, ◌*◌, ◌^◌, ◌<◌, ◌≤◌, List, [], ◌∷◌, length, map, Bool, ℤ, pos, ◌-ℤ◌, ◌∙◌, refl, subst, arith}
 use Rattle.std.specs.List.{sum_by, AllByRecursion}
-use Rattle.std.specs.Int.{abs_diff}
 use Rattle.std.specs.Int.RustNames.{unsigned_abs}
-use Rattle.std.proofs.lemmas.Nat.{mul-le}
 use Rattle.std.proofs.lemmas.List.Sums.{sum_by-cons}
 use Rattle.mls_model.specs.Statistics.{covariance, variance, column}
 use Rattle.mls_cov.specs.Rules.{AreSums, variance_in, covariance_in}
@@ -90,7 +88,7 @@ pub small_of : {R : Type 0} (k : ℕ) (u : ℕ → ℤ) → ((x : ℕ) → IsDif
 small_of k u each rows f few h = small_form _ (length rows) (sum_by f rows) _ (covariance_form k u each rows f f) few (sums_of_samples rows f h)
 
 -- a sample is in range where all of its row are
-at_most : (row : List ℕ) (j : ℕ) → AllByRecursion (λ x. x < 65536) row → sample j row ≤ 65535
+pub at_most : (row : List ℕ) (j : ℕ) → AllByRecursion (λ x. x < 65536) row → sample j row ≤ 65535
 at_most [] j h = omega arith
 at_most (x ∷ row) zero h = omega (arith, h.0)
 at_most (x ∷ row) (suc j) h = at_most row j h.1

@@ -1,5 +1,5 @@
 -- Squares and products of distances, and the step of the inequality of Cauchy and Schwarz.
-use Rattle.std.proofs.Common.{◌≡◌, ℕ, zero, suc, ◌+◌, ◌-◌, ◌*◌, ◌<◌, ◌≤◌, inl, inr, ap, sym, ◌∙◌, arith, ◌⊎◌}
+use Rattle.std.proofs.Common.{◌≡◌, ℕ, zero, suc, ◌+◌, ◌-◌, ◌*◌, ◌<◌, ◌≤◌, inl, inr, ap, ◌∙◌, arith, ◌⊎◌}
 use Rattle.std.specs.Int.{abs_diff}
 use Rattle.std.proofs.lemmas.Bool.{cases_lt}
 use Rattle.std.proofs.lemmas.Nat.{mul-le}
@@ -118,6 +118,3 @@ products_more n x xx y yy xy a b some first second h =
     let left = variance_more n x xx a first (spread_more n x xx a first) in
     let right = variance_more n y yy b second (spread_more n y yy b second) in
     divided n _ ((n + 1) * q + f * g) _ _ some (covariance_more n x y xy a b) (rw (left, right) (product_more (n + 1) q (n * xx - x * x) (n * yy - y * y) f g h))
-
-pub products_first : (xx yy xy a b : ℕ) → xx ≡ 0 → yy ≡ 0 → xy ≡ 0 → abs_diff ((0 + 1) * (xy + a * b)) ((0 + a) * (0 + b)) ≡ 0
-products_first xx yy xy a b p q r = rw r (omega arith)

@@ -5,5 +5,7 @@ pub mod laws;
 pub mod martinez;
 pub mod ranges;
 pub mod sums;
+#[cfg(test)]
+mod tests;
 
 pub use martinez::{IndexParts, Martinez, Sum};

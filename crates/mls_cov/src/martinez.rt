@@ -1,34 +1,45 @@
 //! The sums of a list of rows, and the parts of the indices that are read from them.
 
-ghost use Rattle.std.specs.Prelude.{◌≡◌, ℕ, ◌+◌, ◌-◌, ◌*◌, ◌<◌, ◌≤◌, List, length, slice_index, ℤ, pos, ◌-ℤ◌};
+ghost use Rattle.std.specs.Prelude.{◌≡◌, ℕ, ◌+◌, ◌-◌, ◌*◌, ◌<◌, ◌≤◌, List, length, take, slice_index, ℤ, pos, ◌-ℤ◌};
 ghost use Rattle.mls_cov.specs.Rules.{AreSums, KeepsRules};
 
 use crate::ranges::{is_zero_from, keeps_rules};
 use crate::sums::{SUM_COUNT, add_row};
+use mls_base::row::Row;
 
 /// The name of a sum: of A, B or C^k, or of the products of two of them.
 #[derive(Clone, Copy, Debug, PartialEq, Eq)]
 pub enum Sum {
+    /// Of A.
     A,
+    /// Of B.
     B,
+    /// Of the squares of A.
     AA,
+    /// Of the squares of B.
     BB,
+    /// Of C^k.
     C { k: u32 },
+    /// Of the squares of C^k.
     CC { k: u32 },
+    /// Of the products of A and C^k.
     AC { k: u32 },
+    /// Of the products of B and C^k.
     BC { k: u32 },
 }
 
-/// What the indices of a parameter are made of, each n² times a covariance or a variance of n rows.
+/// What the indices of a parameter are made of, each n² times a covariance or a variance of n rows, so a whole number.
 #[derive(Clone, Copy, Debug, PartialEq, Eq)]
 pub struct IndexParts {
-    /// Of B and C^k.
+    /// The covariance of B and C^k.
     pub cov_b: i128,
-    /// Of A and C^k.
+    /// The covariance of A and C^k.
     pub cov_a: i128,
+    /// The variance of A.
     pub var_a: u128,
+    /// The variance of B.
     pub var_b: u128,
-    /// Of C^k.
+    /// The variance of C^k.
     pub var_c: u128,
 }
 
@@ -42,6 +53,17 @@ pub struct Martinez {
     ghost sized: { parameters ≤ 16 },
     ghost rules: { KeepsRules count parameters sums },
     ghost none_beyond: { (i : ℕ) → 4 + 4 * parameters ≤ i → slice_index sums i ≡ 0 },
+}
+
+// The samples of a row, in the front of an array.
+fn samples_of(row: &Row) -> [u16; 18]
+    ensures { take (length row.now) result ≡ row.now }
+{
+    let mut samples = [0; 18];
+    for i in 0..row.len() {
+        samples[i as usize] = row.at(i);
+    }
+    samples
 }
 
 fn no_sums() -> [u64; SUM_COUNT]
@@ -113,15 +135,20 @@ impl Martinez {
         }
     }
 
-    /// Adds a row, given as a slice of its samples.
-    pub fn add_samples(&mut self, row: &[u16])
+    /// Adds a row.
+    pub fn add(&mut self, row: &Row)
         requires row { length row.now ≡ parameters_of self.old + 2 }
         requires room { count_of self.old < 65535 }
         ensures count { count_of self.new ≡ count_of self.old + 1 }
         ensures parameters { parameters_of self.new ≡ parameters_of self.old }
         ensures adds { (rows : List (List ℕ)) → StandsFor self.old rows → StandsFor self.new (rows ++ row.now ∷ []) }
     {
-        add_row(&mut self.sums, self.parameters, row);
+        let samples = samples_of(row);
+        add_row(
+            &mut self.sums,
+            self.parameters,
+            &samples[..row.len() as usize],
+        );
         self.count += 1;
     }
 

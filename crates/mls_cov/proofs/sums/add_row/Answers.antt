@@ -1,4 +1,4 @@
-use Rattle.std.proofs.Common.{ℕ, ◌≤◌, List, slice_index, arith}
+use Rattle.std.proofs.Common.{arith}
 use Rattle.mls_cov.proofs.Bounds.{AddsRow, space_from_room, rules_more}
 use Rattle.mls_cov.proofs.Rows.{holds_more}
 use Rattle.mls_cov.proofs.sums.add_row.Goals as goal

@@ -6,5 +6,5 @@ abbrev pub invariant-loop-i : goal.invariant-loop-i
 invariant-loop-i l = record {
   long : length l.sums ≡ 68;
   done : (j : ℕ) → j < l.i → slice_index l.sums j ≡ slice_index l.words j;
-  rest : (j : ℕ) → l.i ≤ j → slice_index l.sums j ≡ 0
+  rest : (j : ℕ) → l.i ≤ j → slice_index l.sums j ≡ 0;
 }
