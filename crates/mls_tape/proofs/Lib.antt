@@ -1,3 +1,4 @@
 pub mod Loop
 pub mod LaneLemmas
 pub mod Counting
+pub mod Tables
