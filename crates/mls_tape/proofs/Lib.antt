@@ -2,3 +2,4 @@ pub mod Loop
 pub mod LaneLemmas
 pub mod Counting
 pub mod Tables
+pub mod Entries

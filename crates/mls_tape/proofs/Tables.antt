@@ -2,7 +2,7 @@
 use Rattle.std.proofs.Common.{◌≡◌, ℕ, zero, suc, ◌+◌, ◌*◌, ◌≤◌, ◌<◌, Bool, true, false, cond, eqb, ltb, not, ◌&&◌, ◌||◌, List, [], ◌∷◌, ◌++◌, length, take, drop, map, get_or, Option, Some, None, Result, Ok, Err, refl, sym, ap, subst, ◌∙◌, append_assoc, arith, codes, inl, inr}
 use Rattle.std.specs.Int.{w8, w16, w32, Width, byte_len, from_be_bytes}
 use Rattle.std.specs.List.{AllByRecursion}
-use Rattle.std.proofs.lemmas.Bool.{ltb-true, cases_lt}
+use Rattle.std.proofs.lemmas.Bool.{ltb-true, ltb-false, cases_lt}
 use Rattle.std.proofs.lemmas.List.{append-nil, take-append-drop, drop-drop, length-append, get_or_append_left, get_or-append-add, get_or_past, drop_at}
 use Rattle.mls_model.specs.declared.lanes.TapeWhy.{TapeWhy}
 use Rattle.mls_model.specs.declared.lanes.TapeWhy.TheVariants as why
@@ -135,6 +135,23 @@ parts_at (suc n) ranks at rest tape ps is e =
     let others = parts_at n ranks (at + (7 + length a.0.0.bytes)) a.0.1 tape b.0 later b.1 in
     subst (λ (qs : List LaneBytes). AllByRecursion (IsPart tape ranks) qs) (ok_lanes (a.0.0 ∷ b.0) ps b.2) (record { stands = record { more = a.0.1; split = place }; rank = lane.rank }, others)
 
+count_at : (n ranks at : ℕ) (rest : List ℕ) (ps : List LaneBytes) → lanes_at n ranks at rest ≡ Ok ps → length ps ≡ n
+unfolding lanes_at
+count_at zero ranks at rest ps e = subst (λ (qs : List LaneBytes). length qs ≡ 0) (ended (eqb (length rest) 0) (record { at = at; why = why.Trailing }) ps e) refl
+count_at (suc n) ranks at rest ps e =
+    let a = bind_ok (lane_at ranks at rest) (λ lane. lanes_at n ranks (at + (7 + length lane.0.bytes)) lane.1 >>= λ others. Ok (lane.0 ∷ others)) ps e in
+    let b = bind_ok (lanes_at n ranks (at + (7 + length a.0.0.bytes)) a.0.1) (λ others. Ok (a.0.0 ∷ others)) ps a.2 in
+    subst (λ (qs : List LaneBytes). length qs ≡ suc n) (ok_lanes (a.0.0 ∷ b.0) ps b.2) (ap suc (count_at n ranks (at + (7 + length a.0.0.bytes)) a.0.1 b.0 b.1))
+
+ok_numbers : (x y : ℕ × List ℕ) → ◌≡◌ {A = Read (ℕ × List ℕ)} (Ok x) (Ok y) → x ≡ y
+ok_numbers x y e = cc
+
+not_many : (head : ℕ) (x y : ℕ × List ℕ) (b : Bool) → ltb 65535 x.0 ≡ b → cond b (refused head why.TooManyLanes) (Ok x) ≡ Ok y → y.0 ≤ 65535
+not_many head x y true t e = absurd cc
+not_many head x y false t e =
+    let same : x ≡ y = ok_numbers x y e in
+    subst (λ (z : ℕ × List ℕ). z.0 ≤ 65535) same (ltb-false 65535 x.0 t)
+
 -- ---- the whole table
 
 abbrev after_some : ℕ → ℕ × List ℕ → ℕ × List ℕ → Read (List LaneBytes)
@@ -158,9 +175,6 @@ after_magic ranks signed marked = number_at w16 4 marked.1 >>= after_number rank
 abbrev after_mark : ℕ → Bool → List ℕ × List ℕ → Read (List LaneBytes)
 after_mark ranks signed magic = cond (same_bytes magic.0 (codes "MTAP")) (Ok magic) (refused 0 why.Magic) >>= after_magic ranks signed
 
-ok_numbers : (x y : ℕ × List ℕ) → ◌≡◌ {A = Read (ℕ × List ℕ)} (Ok x) (Ok y) → x ≡ y
-ok_numbers x y e = cc
-
 -- the samples byte stands after the version
 samples_test : (signed one : Bool) (tape bytes : List ℕ) (x : ℕ × List ℕ) → drop 6 tape ≡ bytes → cond one (Ok (6, bytes)) (number_at w8 6 bytes >>= λ kind. cond (eqb kind.0 (cond signed 1 0)) (Ok (7, kind.1)) (refused 6 why.Samples)) ≡ Ok x → drop x.0 tape ≡ x.1
 samples_test signed true tape bytes x is e =
@@ -179,7 +193,7 @@ samples_left signed version tape bytes x is e = samples_test signed (eqb version
 bytes_drop : (n at : ℕ) (bytes : List ℕ) (x : List ℕ × List ℕ) → bytes_at n at bytes ≡ Ok x → x.1 ≡ drop n bytes
 bytes_drop n at bytes x e = ap (λ (p : List ℕ × List ℕ). p.1) (sym (guard_ok (ltb (length bytes) n) (record { at = at; why = why.Cut }) (take n bytes, drop n bytes) x e))
 
-pub parts_of : (ranks : ℕ) (signed : Bool) (tape : List ℕ) (ps : List LaneBytes) → lanes_of ranks signed tape ≡ Ok ps → AllByRecursion (IsPart tape ranks) ps
+pub parts_of : (ranks : ℕ) (signed : Bool) (tape : List ℕ) (ps : List LaneBytes) → lanes_of ranks signed tape ≡ Ok ps → AllByRecursion (IsPart tape ranks) ps × (length ps ≤ 65535)
 unfolding lanes_of
 parts_of ranks signed tape ps e =
     let a = bind_ok (bytes_at 4 0 tape) (after_mark ranks signed) ps e in
@@ -196,7 +210,8 @@ parts_of ranks signed tape ps e =
     let six : drop 6 tape ≡ d.0.1 = sym (drop-drop 2 4 tape) ∙ ap (λ (t : List ℕ). drop 2 t) (sym four) ∙ sym (number_left w16 4 b.0.1 c.0 c.1) ∙ ap (λ (x : ℕ × List ℕ). x.1) known in
     let head : drop f.0.0 tape ≡ f.0.1 = samples_left signed d.0.0 tape d.0.1 f.0 six f.1 in
     let lanes : drop (f.0.0 + 4) tape ≡ h.0.1 = sym (drop-drop 4 f.0.0 tape) ∙ ap (λ (t : List ℕ). drop 4 t) head ∙ sym (number_left w32 f.0.0 f.0.1 g.0 g.1) ∙ ap (λ (x : ℕ × List ℕ). x.1) some in
-    parts_at h.0.0 ranks (f.0.0 + 4) h.0.1 tape ps lanes h.2
+    let few : h.0.0 ≤ 65535 = not_many f.0.0 g.0 h.0 (ltb 65535 g.0.0) refl h.1 in
+    (parts_at h.0.0 ranks (f.0.0 + 4) h.0.1 tape ps lanes h.2, omega (arith, count_at h.0.0 ranks (f.0.0 + 4) h.0.1 ps h.2, few))
 
 -- ---- where the events begin
 
@@ -234,9 +249,10 @@ lane_starts tape ranks p before after h part i f e =
     let split : drop p.at tape ≡ joined (map spelling (lane_frames p.bytes)) ++ (lane_rest p.bytes ++ part.stands.more) = part.stands.split ∙ ap (λ (t : List ℕ). t ++ part.stands.more) events.split ∙ append_assoc (joined (map spelling (lane_frames p.bytes))) (lane_rest p.bytes) part.stands.more in
     let seen = start_seen (lane_frames p.bytes) tape (lane_rest p.bytes ++ part.stands.more) p.at events.each split i f e in
     let len = starts_from-length p.at (lane_frames p.bytes) in
-    let place : get_or (before ++ (starts_from p.at (lane_frames p.bytes) ++ after)) (length before + i) 0 ≡ get_or (starts_from p.at (lane_frames p.bytes)) i 0 = get_or-append-add before (starts_from p.at (lane_frames p.bytes) ++ after) i 0 ∙ get_or_append_left (starts_from p.at (lane_frames p.bytes)) after 0 i (omega (arith, len, seen.0)) in
-    (omega (arith, length-append before (starts_from p.at (lane_frames p.bytes) ++ after), length-append (starts_from p.at (lane_frames p.bytes)) after, len, seen.0),
-     ap (λ (k : ℕ). sight (drop k tape)) place ∙ seen.1)
+    let place : get_or (before ++ (starts_from p.at (lane_frames p.bytes) ++ after)) (length before + i) 0 ≡ get_or (starts_from p.at (lane_frames p.bytes)) i 0 = get_or-append-add before (starts_from p.at (lane_frames p.bytes) ++ after) i 0 ∙ get_or_append_left (starts_from p.at (lane_frames p.bytes)) after 0 i (omega (arith, len, seen.0)) in (
+      omega (arith, length-append before (starts_from p.at (lane_frames p.bytes) ++ after), length-append (starts_from p.at (lane_frames p.bytes)) after, len, seen.0),
+      ap (λ (k : ℕ). sight (drop k tape)) place ∙ seen.1,
+    )
 
 frames_made : (p : LaneBytes) → (lane_of p.rank p.kind p.bytes).frames ≡ lane_frames p.bytes
 unfolding lane_of
@@ -252,6 +268,16 @@ starts_made tape ranks (p ∷ ps) before n h parts is =
     let others = starts_made tape ranks ps (before ++ starts_from p.at (lane_frames p.bytes)) (n + length (lane_of p.rank p.kind p.bytes).frames) h parts.1 size in
     (first, subst (λ (ss : List ℕ). AreAllStarts ss tape (n + length (lane_of p.rank p.kind p.bytes).frames) (lanes_made ps)) (append_assoc before (starts_from p.at (lane_frames p.bytes)) (all_starts ps)) others)
 
+-- the lanes' ranks are ranks
+ranks_made : (tape : List ℕ) (ranks : ℕ) (ps : List LaneBytes) → AllByRecursion (IsPart tape ranks) ps → AllByRecursion (λ (l : Lane). l.rank < ranks) (lanes_made ps)
+unfolding lane_of
+ranks_made tape ranks [] parts = tt
+ranks_made tape ranks (p ∷ ps) parts = (parts.0.rank, ranks_made tape ranks ps parts.1)
+
+lanes_made-length : (ps : List LaneBytes) → length (lanes_made ps) ≡ length ps
+lanes_made-length [] = refl
+lanes_made-length (p ∷ ps) = ap suc (lanes_made-length ps)
+
 -- ---- the tape
 
 tape_read : (ranks : ℕ) (signed : Bool) (bytes : List ℕ) (ps : List LaneBytes) → lanes_of ranks signed bytes ≡ Ok ps → tape_of ranks signed bytes ≡ counted 0 ps
@@ -265,7 +291,9 @@ tables_fit ranks signed bytes ps entries starts h read count table begins =
     record {
       read = tape ∙ ap (λ (ls : List Lane). Ok ls) (sym lanes);
       table = table ∙ ap (λ (ls : List Lane). entries_of 0 ls) (sym lanes);
-      begins = subst (λ (ls : List Lane). AreAllStarts starts bytes 0 ls) (sym lanes) (subst (λ (ss : List ℕ). AreAllStarts ss bytes 0 (lanes_made ps)) (sym begins) (starts_made bytes ranks ps [] 0 h (parts_of ranks signed bytes ps read) refl));
+      begins = subst (λ (ls : List Lane). AreAllStarts starts bytes 0 ls) (sym lanes) (subst (λ (ss : List ℕ). AreAllStarts ss bytes 0 (lanes_made ps)) (sym begins) (starts_made bytes ranks ps [] 0 h (parts_of ranks signed bytes ps read).0 refl));
+      few = omega (arith, ap (λ (ls : List Lane). length ls) lanes, lanes_made-length ps, (parts_of ranks signed bytes ps read).1);
+      known = subst (λ (ls : List Lane). AllByRecursion (λ (l : Lane). l.rank < ranks) ls) (sym lanes) (ranks_made bytes ranks ps (parts_of ranks signed bytes ps read).0);
     }
 
 pub table_fails : (ranks : ℕ) (signed : Bool) (bytes : List ℕ) (e : TapeFault) → Fails e (lanes_of ranks signed bytes) → Fails e (tape_of ranks signed bytes)
@@ -275,9 +303,3 @@ table_fails ranks signed bytes (faults.Bad at why) h = ap (λ (r : Read (List La
 
 pub count_fails : (ranks : ℕ) (signed : Bool) (bytes : List ℕ) (ps : List LaneBytes) (e : TapeFault) → lanes_of ranks signed bytes ≡ Ok ps → Fails e (counted 0 ps) → Fails e (tape_of ranks signed bytes)
 count_fails ranks signed bytes ps e read h = subst (λ (r : Read (List Lane)). Fails e r) (sym (tape_read ranks signed bytes ps read)) h
-
--- the tables of a tape's lanes have ranks below the tape's
-ranks_made : (tape : List ℕ) (ranks : ℕ) (ps : List LaneBytes) → AllByRecursion (IsPart tape ranks) ps → AllByRecursion (λ (l : Lane). l.rank < ranks) (lanes_made ps)
-unfolding lane_of
-ranks_made tape ranks [] parts = tt
-ranks_made tape ranks (p ∷ ps) parts = (parts.0.rank, ranks_made tape ranks ps parts.1)

@@ -1,6 +1,6 @@
 -- What a scan of a lane finds, and the tables that a tape keeps beside its bytes.
 use Rattle.std.specs.Prelude.{◌≡◌, ℕ, zero, suc, ◌+◌, ◌<◌, ◌≤◌, Bool, List, [], ◌∷◌, length, map, slice_index, drop, Option, Some, None, Result, Ok, Err}
-use Rattle.std.specs.List.{flat_map}
+use Rattle.std.specs.List.{flat_map, AllByRecursion}
 use Rattle.mls_model.specs.Numbers.{joined, element}
 use Rattle.mls_model.specs.Frames.{Frame, spelling, whole, sight}
 use Rattle.mls_model.specs.Lanes.{Lane, LaneBytes, lane_frames, lane_of, tape_of}
@@ -23,6 +23,13 @@ lanes_made parts = map (λ (p : LaneBytes). lane_of p.rank p.kind p.bytes) parts
 abbrev pub entry_of : ℕ → Lane → Entry
 entry_of before lane = record { rank = lane.rank; kind = lane.kind; first = before; events = length lane.frames; end = lane.end }
 
+-- it is an entry of the lane
+pub record IsEntry (entry : Entry) (lane : Lane) : Type 0 where
+  pub rank : entry.rank ≡ lane.rank
+  pub kind : entry.kind ≡ lane.kind
+  pub events : entry.events ≡ length lane.frames
+  pub end : entry.end ≡ lane.end
+
 abbrev pub entries_of : ℕ → List Lane → List Entry
 entries_of before [] = []
 entries_of before (lane ∷ lanes) = entry_of before lane ∷ entries_of (before + length lane.frames) lanes
@@ -44,3 +51,5 @@ pub record TablesFit (ranks : ℕ) (signed : Bool) (bytes : List ℕ) (entries :
   pub read : tape_of ranks signed bytes ≡ Ok (lanes_in ranks signed bytes)
   pub table : entries ≡ entries_of 0 (lanes_in ranks signed bytes)
   pub begins : AreAllStarts starts bytes 0 (lanes_in ranks signed bytes)
+  pub few : length (lanes_in ranks signed bytes) ≤ 65535
+  pub known : AllByRecursion (λ (lane : Lane). lane.rank < ranks) (lanes_in ranks signed bytes)

@@ -37,6 +37,7 @@ pub returns : goal.returns
 returns c =
     let all = all_lane_bytes c.args.parts.now in
     let end = rest_end c.args.parts.now c.loop-part.part-index c.loop-part-test.false in
-    let found = c.loop-part.entries.items in
-    (goes_done c.loop-part.before all (subst (λ (ps : List LaneBytes). Goes c.loop-part.before ps all) end c.loop-part.invariant.goes),
-     sym (append-nil found) ∙ ap (λ (ps : List LaneBytes). found ++ entries_of c.loop-part.before (lanes_made ps)) (sym end) ∙ c.loop-part.invariant.entries)
+    let found = c.loop-part.entries.items in (
+      goes_done c.loop-part.before all (subst (λ (ps : List LaneBytes). Goes c.loop-part.before ps all) end c.loop-part.invariant.goes),
+      sym (append-nil found) ∙ ap (λ (ps : List LaneBytes). found ++ entries_of c.loop-part.before (lanes_made ps)) (sym end) ∙ c.loop-part.invariant.entries,
+    )
