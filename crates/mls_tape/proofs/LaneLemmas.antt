@@ -44,7 +44,7 @@ few_cond : (b : Bool) (x : Sight) → b ≡ true → cond b more x ≡ more
 few_cond b x e = rw e refl
 
 -- too few bytes
-few_sight : (bytes : List ℕ) → length bytes < 4 → sight bytes ≡ more
+pub few_sight : (bytes : List ℕ) → length bytes < 4 → sight bytes ≡ more
 unfolding sight
 few_sight bytes lt = few_cond (ltb (length bytes) 4) _ (lt-ltb _ _ lt)
 

@@ -2,7 +2,7 @@
 use Rattle.std.specs.Prelude.{◌≡◌, ℕ, zero, suc, ◌+◌, ◌<◌, ◌≤◌, Bool, List, [], ◌∷◌, length, map, slice_index, drop, Option, Some, None, Result, Ok, Err}
 use Rattle.std.specs.List.{flat_map, AllByRecursion}
 use Rattle.mls_model.specs.Numbers.{joined, element}
-use Rattle.mls_model.specs.Frames.{Frame, spelling, whole, sight}
+use Rattle.mls_model.specs.Frames.{Frame, spelling, Sight, whole, more, bad, sight}
 use Rattle.mls_model.specs.Lanes.{Lane, LaneBytes, lane_frames, lane_of, tape_of}
 use Rattle.mls_tape.specs.declared.scanning.Entry.{Entry}
 
@@ -53,3 +53,9 @@ pub record TablesFit (ranks : ℕ) (signed : Bool) (bytes : List ℕ) (entries :
   pub begins : AreAllStarts starts bytes 0 (lanes_in ranks signed bytes)
   pub few : length (lanes_in ranks signed bytes) ≤ 65535
   pub known : AllByRecursion (λ (lane : Lane). lane.rank < ranks) (lanes_in ranks signed bytes)
+
+-- a whole frame is seen
+abbrev pub IsWholeSight : Sight → Type 0
+IsWholeSight (whole f used) = Unit {0}
+IsWholeSight more = ⊥
+IsWholeSight (bad fault) = ⊥

@@ -1,20 +1,22 @@
 //! Tapes: lanes of bytes in one file.
 
-ghost use Rattle.std.specs.Prelude.{◌≡◌, ℕ, ◌+◌, ◌<◌, ◌≤◌, List, length, vec_len, Ok, Some, MatchResult, IfOk};
+ghost use Rattle.std.specs.Prelude.{◌≡◌, ℕ, ◌+◌, ◌<◌, ◌≤◌, List, length, drop, vec_len, Ok, Some, MatchResult, IfOk};
 ghost use Rattle.std.specs.List.{AllByRecursion};
 ghost use Rattle.mls_model.specs.Numbers.{element};
+ghost use Rattle.mls_model.specs.Frames.{Frame, spelling, sight, whole};
 ghost use Rattle.mls_model.specs.Lanes.{Lane, line_of, tape_of};
 ghost use Rattle.mls_model.specs.Schedules.{event_count, is_lane_of};
 ghost use Rattle.mls_model.specs.Histories.{event_of};
+ghost use Rattle.mls_frame.specs.Views.{frame_of};
 ghost use Rattle.mls_tape.specs.Reading.{Gives, Fails};
-ghost use Rattle.mls_tape.specs.Scans.{TablesFit, IsEntry};
+ghost use Rattle.mls_tape.specs.Scans.{TablesFit, IsEntry, IsWholeSight};
 ghost use Rattle.mls_tape.specs.Tapes.{told_lane};
 
 use crate::decoded::{Decoded, Lanes};
 use crate::faults::TapeFault;
 use crate::scanning::{Entry, entries_of, starts_of};
 use crate::table::lanes_of;
-use mls_frame::{Seen, view};
+use mls_frame::{FrameView, Seen, view};
 use mls_model::lanes::{LaneEnd, LaneKind, LaneLine};
 use std::alloc::Global;
 use std::marker::Model;
@@ -161,5 +163,58 @@ impl Tape {
             events: entry.events,
             end: entry.end,
         }
+    }
+
+    /// Where an event of a lane begins in the tape's bytes.
+    fn start(&self, lane: u32, number: u32) -> u32
+        requires { number < event_count self.now.lanes lane }
+        ensures within { result ≤ length self.now.bytes }
+        ensures whole { (l : Lane) (f : Frame) → element self.now.lanes lane ≡ Some l → element l.frames number ≡ Some f →
+            sight (drop result self.now.bytes) ≡ whole f (length (spelling f)) }
+    {
+        let first = self.lanes[lane as usize].first;
+        self.starts[first as usize + number as usize]
+    }
+
+    /// Event `number` of the lane, with no copy of its samples and in the same time whatever its number is.
+    pub fn event(&self, lane: u32, number: u32) -> Decoded<'_, &Tape>
+        requires { number < event_count self.now.lanes lane }
+        ensures event { event_of self.now.lanes lane number ≡ Some (record { kind = result.kind; frame = result.frame }) }
+        ensures place { (result.lane ≡ lane) × (result.number ≡ number) }
+        ensures lanes { result.lanes.now ≡ self.now }
+    {
+        let start = self.start(lane, number);
+        let kind = self.lane_kind(lane);
+        let view = frame_at(self.bytes(), start);
+        Decoded::new(self, lane, number as u64, kind, view)
+    }
+}
+
+/// The frame that begins at a place.
+fn frame_at(bytes: &[u8], start: u32) -> FrameView<'_>
+    requires within { start ≤ length bytes.now }
+    requires whole { IsWholeSight (sight (drop start bytes.now)) }
+    ensures { (f : Frame) (used : ℕ) → sight (drop start bytes.now) ≡ whole f used → frame_of result ≡ f }
+{
+    match view(bytes.split_at(start as usize).1) {
+        Seen::Whole { frame, .. } => frame,
+        _ => unreachable!(),
+    }
+}
+
+/// A tape tells its lanes, and a lane belongs to its own rank alone.
+impl<'a> Lanes for &'a Tape {
+    ghost told = { λ t k. told_lane t.now.lanes k };
+
+    ghost lane_count = { λ t. length t.now.lanes };
+
+    ghost belongs_to = { λ t rank k. is_lane_of t.now.lanes rank k };
+
+    fn lanes(&self) -> u32 {
+        self.lane_count()
+    }
+
+    fn belongs(&self, rank: u32, lane: u32) -> bool {
+        lane < self.lane_count() && self.lane_rank(lane) == rank
     }
 }
