@@ -6,3 +6,4 @@ pub mod Bounds
 pub mod Values
 pub mod Least
 pub mod Counted
+pub mod Ruled

@@ -57,6 +57,21 @@ impl Exceed {
         }
     }
 
+    /// The numbers that packed storage holds, as `add_above` keeps them, one for each threshold.
+    pub fn unpacked(count: u32, numbers: &[u32]) -> Exceed
+        requires few { count ≤ 131070 }
+        requires size { length numbers.now ≤ 8 }
+        requires range { AreNumbersAbove count numbers.now }
+        ensures count { exceed_count_of result ≡ count }
+        ensures numbers { (i : ℕ) → slice_index (numbers_of result) i ≡ slice_index numbers.now i }
+        ensures stands { (thresholds ws : List ℕ) → length thresholds ≡ length numbers.now → length ws ≡ count → HoldsAbove thresholds numbers.now ws → ExceedStandsFor thresholds result ws }
+    {
+        Exceed {
+            count,
+            numbers: in_eight(numbers),
+        }
+    }
+
     /// Adds a sample, a shifted value, by the thresholds of a shape.
     pub fn add(&mut self, shape: &Shape, x: u16)
         requires { exceed_count_of self.old < 131070 }
@@ -77,6 +92,13 @@ impl Exceed {
         let _few = self.count;
     }
 
+    /// The number of samples.
+    pub fn count(&self) -> u32
+        ensures { result ≡ exceed_count_of self.now }
+    {
+        self.count
+    }
+
     /// How many samples are greater than a threshold, and 0 behind the thresholds.
     pub fn above(&self, i: u32) -> u32
         ensures value { result ≡ slice_index (numbers_of self.now) i }
@@ -84,6 +106,16 @@ impl Exceed {
     {
         self.numbers.get(i as usize).copied().unwrap_or(0)
     }
+}
+
+/// Up to eight numbers in eight places, and 0 behind them.
+fn in_eight(numbers: &[u32]) -> [u32; MOST_THRESHOLDS]
+    requires { length numbers.now ≤ 8 }
+    ensures { (i : ℕ) → slice_index result i ≡ slice_index numbers.now i }
+{
+    let mut places = [0; MOST_THRESHOLDS];
+    places[..numbers.len()].copy_from_slice(numbers);
+    places
 }
 
 /// Whether each number is at most `most`.

@@ -8,3 +8,5 @@ pub mod extrema;
 pub mod laws;
 pub mod power;
 pub mod sums;
+#[cfg(test)]
+mod tests;
