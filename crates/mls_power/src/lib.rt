@@ -4,3 +4,5 @@
 pub mod laws;
 pub mod power;
 pub mod sums;
+#[cfg(test)]
+mod tests;
