@@ -1,3 +1,6 @@
 mod Rising
 mod Padding
 mod Ranges
+pub mod Told
+mod Pieces
+pub mod Sharing

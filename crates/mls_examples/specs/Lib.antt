@@ -1,1 +1,9 @@
-pub mod TwoGroups
+pub mod Small
+pub mod Statistics
+pub mod Assembly
+pub mod Crashes
+pub mod Lanes
+pub mod Largest
+pub mod Fields
+pub mod Samples
+pub mod Studies

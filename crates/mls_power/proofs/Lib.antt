@@ -4,3 +4,5 @@ pub mod Deviations
 pub mod Translates
 pub mod Bounds
 pub mod Values
+pub mod Least
+pub mod Counted
