@@ -1,4 +1,7 @@
-//! Values by hand: the samples of two and of three groups, signed samples, and no samples.
+//! Values by hand: the samples of two and of three groups, signed samples, the most samples, and no samples.
+
+ghost use Rattle.std.specs.Prelude.{◌≡◌, ◌+◌, ◌≤◌};
+ghost use Rattle.mls_power.specs.Standing.{count_of};
 
 use crate::exceed::Exceed;
 use crate::extrema::Extrema;
@@ -32,6 +35,15 @@ fn shape_of(thresholds: u32, threshold: [u16; 8]) -> Option<Shape> {
         fields: 1,
     };
     Shape::of(&numbers)
+}
+
+fn add_times(power: &mut Power, sample: u16, times: u32)
+    requires { count_of power.old + times ≤ 131070 }
+    ensures { count_of power.new ≡ count_of power.old + times }
+{
+    for _time in 0..times {
+        power.add(sample);
+    }
 }
 
 #[test]
@@ -152,4 +164,43 @@ fn numbers_above(rt: HostRuntime) {
         assert!(rt; Exceed::of(&shape, 3, [1, 2, 0, 0, 0, 0, 0, 0]).is_none());
         assert!(rt; Exceed::of(&shape, 3, [3, 2, 1, 0, 0, 0, 0, 0]).is_none());
     }
+}
+
+#[test]
+fn sums_of_the_most_samples(rt: HostRuntime) {
+    let mut largest = Power::new();
+    add_times(&mut largest, 65535, 131070);
+    let sums = Powers {
+        p1: 8589672450,
+        p2: 562924184010750,
+        p3: 36891236399144501250,
+        p4: 2417667177417934889418750,
+    };
+    assert_eq!(rt; largest.powers(false), sums);
+    assert_eq!(rt; largest.variance_top(), 0);
+    assert_eq!(rt; largest.third_top(), 0);
+    let mut least = Power::new();
+    add_times(&mut least, 0, 131070);
+    let sums = Powers {
+        p1: -4294901760,
+        p2: 140735340871680,
+        p3: -4611615649683210240,
+        p4: 151113421608819433144320,
+    };
+    assert_eq!(rt; least.powers(true), sums);
+    assert_eq!(rt; least.variance_top(), 0);
+}
+
+#[test]
+fn words_give_back_sums(rt: HostRuntime) {
+    let one = Power::unpacked(1, &[2, 4, 8, 0, 16, 0]);
+    assert_eq!(rt;
+        one.powers(false),
+        Powers {
+            p1: 2,
+            p2: 4,
+            p3: 8,
+            p4: 16
+        }
+    );
 }
