@@ -1,6 +1,7 @@
 -- When a value of sums stands for a list of rows.
-use Rattle.std.specs.Prelude.{◌≡◌, ℕ, ◌+◌, ◌*◌, List, length}
+use Rattle.std.specs.Prelude.{◌≡◌, ℕ, ◌+◌, ◌-◌, ◌*◌, List, length, slice_index, pos, ◌-ℤ◌}
 use Rattle.mls_cov.specs.declared.martinez.Martinez.{Martinez}
+use Rattle.mls_cov.specs.declared.martinez.IndexParts.{IndexParts}
 use Rattle.mls_cov.specs.declared.martinez.Sum.{Sum}
 use Rattle.mls_cov.specs.declared.martinez.Sum.TheVariants.{A, B, AA, BB, C, CC, AC, BC}
 use Rattle.mls_cov.specs.Sums.{HoldsSums}
@@ -30,3 +31,11 @@ place_of (BC k) = 4 * k + 7
 pub record StandsFor (m : Martinez) (rows : List (List ℕ)) : Type 0 where
   pub count : count_of m ≡ length rows
   pub sums : HoldsSums (parameters_of m) (sums_in m) rows
+
+-- the parts of parameter k's indices in one pass, from the sums of n rows
+pub record ArePartsOf (n k : ℕ) (sums : List ℕ) (parts : IndexParts) : Type 0 where
+  pub cov_b : parts.cov_b ≡ pos (n * slice_index sums (4 + 4 * k + 3)) -ℤ pos (slice_index sums 1 * slice_index sums (4 + 4 * k))
+  pub cov_a : parts.cov_a ≡ pos (n * slice_index sums (4 + 4 * k + 2)) -ℤ pos (slice_index sums 0 * slice_index sums (4 + 4 * k))
+  pub var_a : parts.var_a ≡ n * slice_index sums 2 - slice_index sums 0 * slice_index sums 0
+  pub var_b : parts.var_b ≡ n * slice_index sums 3 - slice_index sums 1 * slice_index sums 1
+  pub var_c : parts.var_c ≡ n * slice_index sums (4 + 4 * k + 1) - slice_index sums (4 + 4 * k) * slice_index sums (4 + 4 * k)

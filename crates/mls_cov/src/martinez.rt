@@ -99,7 +99,7 @@ impl Martinez {
     ghost use Rattle.mls_model.specs.Statistics.{column, covariance, variance};
     ghost use Rattle.mls_cov.specs.Sums.{HoldsSums};
     ghost use Rattle.mls_cov.specs.Rules.{KeepsRules};
-    ghost use Rattle.mls_cov.specs.Standing.{count_of, parameters_of, sums_in, place_of, StandsFor};
+    ghost use Rattle.mls_cov.specs.Standing.{count_of, parameters_of, sums_in, place_of, StandsFor, ArePartsOf};
 
     /// The sums of no rows of so many parameters.
     pub fn new(parameters: u32) -> Martinez
@@ -180,6 +180,7 @@ impl Martinez {
     /// The covariances and variances of which the indices of parameter `k` are made.
     pub fn index(&self, k: u32) -> IndexParts
         requires { k < parameters_of self.now }
+        ensures formulas { ArePartsOf (count_of self.now) k (sums_in self.now) result }
         ensures cov_b { (signed : Bool) (rows : List (List ℕ)) → StandsFor self.now rows → let values = map (map (unshifted signed)) rows in result.cov_b ≡ covariance (column 1 values) (column (2 + k) values) }
         ensures cov_a { (signed : Bool) (rows : List (List ℕ)) → StandsFor self.now rows → let values = map (map (unshifted signed)) rows in result.cov_a ≡ covariance (column 0 values) (column (2 + k) values) }
         ensures var_a { (signed : Bool) (rows : List (List ℕ)) → StandsFor self.now rows → result.var_a ≡ variance (column 0 (map (map (unshifted signed)) rows)) }

@@ -1,0 +1,5 @@
+pub mod CalmEvents
+pub mod CalmWalk
+pub mod Orders
+pub mod Taking
+pub mod Folds
