@@ -1,9 +1,12 @@
 //! The numbers of a study that its ranks work by.
 
-ghost use Rattle.std.specs.Prelude.{◌≡◌, ℕ, ◌+◌, ◌*◌, ◌<◌, ◌≤◌, length, slice_index, IsTrue};
-ghost use Rattle.mls_model.specs.Studies.{Sizes, AreSizes, planes, plane_of};
-ghost use Rattle.mls_model.specs.Blocks.{block};
+ghost use Rattle.std.specs.Prelude.{◌≡◌, ◌<◌, ◌↔◌, ◌*◌, ◌≤◌, length, slice_index, IsSome, IfSome, IsTrue, nat_le, ◌==◌};
+ghost use Rattle.std.specs.List.{list_all};
+ghost use Rattle.mls_model.specs.Studies.{AreSizes, planes, plane_of, rises};
+ghost use Rattle.mls_model.specs.Blocks.{share, block, part, overlap, meet};
+ghost use Rattle.mls_base.specs.Shapes.{sizes_of, AreNumbers, HaveSizes, HaveWorkers, HaveProducts, HaveThresholds};
 
+use crate::numbers::Numbers;
 use mls_model::blocks::Span;
 use std::marker::Model;
 
@@ -44,20 +47,293 @@ impl Model for Shape {
 }
 
 impl Shape {
+    /// The shape of these numbers, or None exactly where a number or a product is out of range, the thresholds
+    /// don't strictly rise, or a place behind them isn't 0.
+    pub fn of(numbers: &Numbers) -> Option<Shape>
+        ensures valid { IsSome result ↔ AreNumbers numbers.now }
+        ensures value { IfSome result (λ shape. shape ≡ sizes_of numbers.now) }
+    {
+        if have_sizes(numbers)
+            && have_workers(numbers)
+            && have_products(numbers)
+            && have_thresholds(numbers)
+        {
+            Some(Shape {
+                cells: numbers.cells,
+                steps: numbers.steps,
+                groups: numbers.groups,
+                parameters: numbers.parameters,
+                ranks: numbers.ranks,
+                clients: numbers.clients,
+                slots: numbers.slots,
+                silence: numbers.silence,
+                lives: numbers.lives,
+                thresholds: numbers.thresholds,
+                threshold: numbers.threshold,
+                signed: numbers.signed,
+                fields: numbers.fields,
+            })
+        } else {
+            None
+        }
+    }
+
+    /// The numbers of a shape are within their ranges.
+    pub fn valid(&self)
+        ensures { AreSizes self.now }
+    {
+        let _ = &self.cells;
+    }
+
+    /// How many cells the mesh has.
     pub fn cells(&self) -> u32
-        ensures { result ≡ self.now.cells }
+        ensures value { result ≡ self.now.cells }
+        ensures valid { AreSizes self.now }
     {
         self.cells
+    }
+
+    /// How many time steps a group has.
+    pub fn steps(&self) -> u32
+        ensures value { result ≡ self.now.steps }
+        ensures valid { AreSizes self.now }
+    {
+        self.steps
+    }
+
+    /// How many groups there may be.
+    pub fn groups(&self) -> u32
+        ensures value { result ≡ self.now.groups }
+        ensures valid { AreSizes self.now }
+    {
+        self.groups
+    }
+
+    /// How many parameters vary.
+    pub fn parameters(&self) -> u32
+        ensures value { result ≡ self.now.parameters }
+        ensures valid { AreSizes self.now }
+    {
+        self.parameters
+    }
+
+    /// How many ranks the mesh is cut into blocks for.
+    pub fn ranks(&self) -> u32
+        ensures value { result ≡ self.now.ranks }
+        ensures valid { AreSizes self.now }
+    {
+        self.ranks
+    }
+
+    /// How many clients send a group's samples.
+    pub fn clients(&self) -> u32
+        ensures value { result ≡ self.now.clients }
+        ensures valid { AreSizes self.now }
+    {
+        self.clients
+    }
+
+    /// How many groups run at once.
+    pub fn slots(&self) -> u32
+        ensures value { result ≡ self.now.slots }
+        ensures valid { AreSizes self.now }
+    {
+        self.slots
+    }
+
+    /// After how many seconds of silence a group is taken for dead.
+    pub fn silence(&self) -> u32
+        ensures value { result ≡ self.now.silence }
+        ensures valid { AreSizes self.now }
+    {
+        self.silence
+    }
+
+    /// How often a group may be started.
+    pub fn lives(&self) -> u32
+        ensures value { result ≡ self.now.lives }
+        ensures valid { AreSizes self.now }
+    {
+        self.lives
+    }
+
+    /// How many fields each cell has at a step.
+    pub fn fields(&self) -> u32
+        ensures value { result ≡ self.now.fields }
+        ensures valid { AreSizes self.now }
+    {
+        self.fields
+    }
+
+    /// How many planes there are: one for each step and field.
+    pub fn planes(&self) -> u32
+        ensures value { result ≡ planes self.now }
+        ensures valid { AreSizes self.now }
+    {
+        self.steps * self.fields
+    }
+
+    /// Whether samples stand for signed values.
+    pub fn signed(&self) -> bool
+        ensures value { result ≡ self.now.signed }
+        ensures valid { AreSizes self.now }
+    {
+        self.signed
+    }
+
+    /// How many thresholds there are, at most 8.
+    pub fn thresholds(&self) -> u32
+        ensures value { result ≡ length self.now.thresholds }
+        ensures valid { AreSizes self.now }
+    {
+        self.thresholds
+    }
+
+    /// A threshold, as a shifted value.
+    pub fn threshold(&self, i: u32) -> u16
+        requires { i < length self.now.thresholds }
+        ensures value { result ≡ slice_index self.now.thresholds i }
+        ensures valid { AreSizes self.now }
+    {
+        self.threshold[i as usize]
+    }
+
+    /// The number of the plane of a step and a field.
+    pub fn plane(&self, step: u32, field: u32) -> u32
+        requires step_in { step < self.now.steps }
+        requires field_in { field < self.now.fields }
+        ensures value { result ≡ plane_of self.now step field }
+        ensures within { result < planes self.now }
+        ensures valid { AreSizes self.now }
+    {
+        step * self.fields + field
     }
 
     /// The block of a rank.
     pub fn block(&self, rank: u32) -> Span
         requires { rank < self.now.ranks }
-        ensures { result ≡ block self.now rank }
+        ensures value { result ≡ block self.now rank }
+        ensures some { result.first < result.end }
+        ensures within { result.end ≤ self.now.cells }
+        ensures valid { AreSizes self.now }
     {
-        let cells = self.cells as u64;
-        let first = rank as u64 * cells / self.ranks as u64;
-        let end = (rank as u64 + 1) * cells / self.ranks as u64;
-        Span { first: first as u32, end: end as u32 }
+        share(self.cells, self.ranks, rank)
     }
+
+    /// The part of a client.
+    pub fn part(&self, client: u32) -> Span
+        requires { client < self.now.clients }
+        ensures value { result ≡ part self.now client }
+        ensures some { result.first < result.end }
+        ensures within { result.end ≤ self.now.cells }
+        ensures valid { AreSizes self.now }
+    {
+        share(self.cells, self.clients, client)
+    }
+
+    /// The cells of a rank's block that a client sends. Where there are none, `first` and `end` are the same.
+    pub fn overlap(&self, rank: u32, client: u32) -> Span
+        requires rank_in { rank < self.now.ranks }
+        requires client_in { client < self.now.clients }
+        ensures value { result ≡ overlap self.now rank client }
+        ensures ordered { result.first ≤ result.end }
+        ensures within { result.end ≤ self.now.cells }
+        ensures valid { AreSizes self.now }
+    {
+        let block = self.block(rank);
+        let part = self.part(client);
+        let first = block.first.max(part.first);
+        Span {
+            first,
+            end: first.max(block.end.min(part.end)),
+        }
+    }
+}
+
+/// Share `i` of `n` over the cells.
+fn share(cells: u32, n: u32, i: u32) -> Span
+    requires share_in { i < n }
+    requires have_cells { n ≤ cells }
+    ensures value { result ≡ share cells n i }
+    ensures some { result.first < result.end }
+    ensures within { result.end ≤ cells }
+{
+    let cells = cells as u64;
+    let first = i as u64 * cells / n as u64;
+    let end = (i as u64 + 1) * cells / n as u64;
+    Span {
+        first: first as u32,
+        end: end as u32,
+    }
+}
+
+/// Whether a number is from 1 to `most`.
+fn is_up_to(n: u32, most: u32) -> bool
+    ensures { IsTrue result ↔ ((1 ≤ n) × (n ≤ most)) }
+{
+    1 <= n && n <= most
+}
+
+/// Whether the sizes of the study are within the ranges of a study file.
+fn have_sizes(n: &Numbers) -> bool
+    ensures { IsTrue result ↔ HaveSizes n.now }
+{
+    is_up_to(n.cells, 1_048_576)
+        && is_up_to(n.steps, 4096)
+        && is_up_to(n.groups, 65_535)
+        && is_up_to(n.parameters, 16)
+        && is_up_to(n.fields, 4)
+}
+
+/// Whether the numbers of those who work on it are.
+fn have_workers(n: &Numbers) -> bool
+    ensures { IsTrue result ↔ HaveWorkers n.now }
+{
+    is_up_to(n.ranks, n.cells.min(64))
+        && is_up_to(n.clients, n.cells.min(64))
+        && is_up_to(n.slots, 65_535)
+        && is_up_to(n.silence, 86_400)
+        && is_up_to(n.lives, 255)
+}
+
+/// Whether the products are.
+fn have_products(n: &Numbers) -> bool
+    requires sizes { HaveSizes n.now }
+    requires workers { HaveWorkers n.now }
+    ensures { IsTrue result ↔ HaveProducts n.now }
+{
+    let planes = n.steps as u64 * n.fields as u64;
+    n.cells as u64 * planes <= 1_048_576
+        && n.groups as u64 * planes * n.ranks as u64 <= 1_073_741_824
+}
+
+/// Whether each number is below the one after it.
+fn is_rising(numbers: &[u16]) -> bool
+    ensures value { result ≡ rises numbers.now }
+    ensures fit { IsTrue (list_all (λ t. nat_le t 65535) numbers.now) }
+{
+    for i in 1..numbers.len() {
+        if numbers[i - 1] >= numbers[i] {
+            return false;
+        }
+    }
+    true
+}
+
+/// Whether each number is 0.
+fn is_zero(numbers: &[u16]) -> bool
+    ensures { result ≡ list_all (λ x. x == 0) numbers.now }
+{
+    numbers.iter().all(|x| *x == 0)
+}
+
+/// Whether the first `thresholds` places of `threshold` rise, and the places behind them are 0.
+fn have_thresholds(n: &Numbers) -> bool
+    ensures { IsTrue result ↔ HaveThresholds n.now }
+{
+    if n.thresholds > 8 {
+        return false;
+    }
+    let (thresholds, behind) = n.threshold.split_at(n.thresholds as usize);
+    is_rising(thresholds) && is_zero(behind)
 }
