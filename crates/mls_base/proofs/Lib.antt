@@ -1,3 +1,4 @@
 mod Rising
 mod Padding
 mod Ranges
+pub mod Told

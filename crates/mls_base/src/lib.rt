@@ -4,6 +4,7 @@
 pub mod faults;
 pub mod numbers;
 pub mod outside;
+pub mod put;
 pub mod rows;
 pub mod shape;
 

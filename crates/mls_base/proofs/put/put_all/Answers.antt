@@ -1,0 +1,13 @@
+use Rattle.std.proofs.Common.{◌≡◌, ◌++◌, take, ap, ◌∙◌, List}
+use Rattle.std.proofs.lemmas.List.{take-append-drop}
+use Rattle.mls_base.proofs.Told.{Written-more}
+use Rattle.mls_base.proofs.put.put_all.Goals as goal
+
+pub loop-rest-preserved : goal.loop-rest-preserved
+loop-rest-preserved g c =
+    let n = c.in_ok-n.n in
+    let rest = c.loop-rest.rest.now in
+    record {
+      written = Written-more _ _ _ _ rest (take n rest) _ c.loop-rest.invariant.written (ap (λ xs. take n rest ++ xs) c.split_at.ensures.back ∙ take-append-drop n rest) c.in_ok-n.ensures.written;
+      faultless = c.in_ok-n.ensures.faultless ∙ c.loop-rest.invariant.faultless;
+    }
