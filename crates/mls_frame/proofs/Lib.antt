@@ -1,0 +1,6 @@
+pub mod Places
+pub mod Pieces
+pub mod Again
+pub mod Steady
+pub mod Takes
+pub mod Theorems

@@ -1,0 +1,130 @@
+//! A piece whose samples are lent from the bytes that spell it.
+
+ghost use Rattle.std.specs.Prelude.{◌≡◌, ℕ, ◌+◌, ◌*◌, ◌<◌, ◌≤◌, length, slice_index};
+ghost use Rattle.std.specs.Int.{w16, w32};
+ghost use Rattle.mls_model.specs.Frames.{IsPiece, number, piece_in, longest_body};
+
+use crate::numbers::{number_16, number_32};
+use mls_base::rows::Rows;
+use std::marker::Model;
+
+/// A piece of a group's timestep as it lies in the bytes that spell it. It holds no sample of its own: the
+/// samples are lent from those bytes, two bytes each, row by row.
+#[derive(Drop)]
+pub struct PieceView<'a> {
+    life: u32,
+    group: u32,
+    plane: u32,
+    client: u16,
+    rows: u16,
+    first: u32,
+    count: u32,
+    samples: &'a [u8],
+}
+
+impl<'a> Model for PieceView<'a> {
+    ghost use Rattle.std.specs.Prelude.{◌≡◌, ℕ, ◌+◌, ◌*◌, ◌≤◌, length};
+    ghost use Rattle.mls_model.specs.Frames.{Piece, IsPiece, samples_in};
+
+    ghost Value = { Piece };
+
+    ghost view = { λ p. record { life = p.life; group = p.group; plane = p.plane; client = p.client; rows = p.rows; first = p.first; count = p.count; samples = samples_in (p.rows * p.count) p.samples.now } };
+
+    ghost invariant = { λ p. (length p.samples.now ≡ 2 * (p.rows * p.count)) × IsPiece (record { life = p.life; group = p.group; plane = p.plane; client = p.client; rows = p.rows; first = p.first; count = p.count; samples = samples_in (p.rows * p.count) p.samples.now }) };
+}
+
+impl<'a> PieceView<'a> {
+    /// The piece with these fields, whose samples are lent from them.
+    pub(crate) fn of(fields: &'a [u8]) -> PieceView<'a>
+        requires samples { 24 + 2 * (number w16 14 fields.now * number w32 20 fields.now) ≤ length fields.now }
+        requires body { 25 + 2 * (number w16 14 fields.now * number w32 20 fields.now) ≤ longest_body }
+        ensures { result ≡ piece_in fields.now }
+    {
+        let rows = number_16(fields, 14);
+        let count = number_32(fields, 20);
+        let size = 2 * (rows as usize * count as usize);
+        PieceView {
+            life: number_32(fields, 0),
+            group: number_32(fields, 4),
+            plane: number_32(fields, 8),
+            client: number_16(fields, 12),
+            rows,
+            first: number_32(fields, 16),
+            count,
+            samples: &fields[24..24 + size],
+        }
+    }
+
+    /// The life of the group that sent the piece.
+    pub fn life(&self) -> u32
+        ensures { result ≡ self.now.life }
+    {
+        self.life
+    }
+
+    /// The group that the piece is of.
+    pub fn group(&self) -> u32
+        ensures { result ≡ self.now.group }
+    {
+        self.group
+    }
+
+    /// The number of the plane that the piece is of.
+    pub fn step(&self) -> u32
+        ensures { result ≡ self.now.plane }
+    {
+        self.plane
+    }
+
+    /// The client that sent the piece.
+    pub fn client(&self) -> u16
+        ensures { result ≡ self.now.client }
+    {
+        self.client
+    }
+
+    /// The first cell of the mesh that the piece has samples of.
+    pub fn first(&self) -> u32
+        ensures { result ≡ self.now.first }
+    {
+        self.first
+    }
+
+    /// The number of cells.
+    pub fn count(&self) -> u32
+        ensures { result ≡ self.now.count }
+    {
+        self.count
+    }
+
+    /// The piece fits its fields and the longest body.
+    pub fn valid(&self)
+        ensures { IsPiece self.now }
+    {
+        let _ = &self.life;
+    }
+}
+
+impl<'a> Rows for PieceView<'a> {
+    ghost row_count = { λ p. p.rows };
+
+    ghost place_count = { λ p. p.count };
+
+    ghost sample = { λ p row place. slice_index p.samples (row * p.count + place) };
+
+    #[inline]
+    fn rows(&self) -> u32 {
+        self.rows as u32
+    }
+
+    #[inline]
+    fn cells(&self) -> u32 {
+        self.count
+    }
+
+    #[inline]
+    fn at(&self, row: u32, cell: u32) -> u16 {
+        let place = 2 * (row as usize * self.count as usize + cell as usize);
+        u16::from_be_bytes([self.samples[place], self.samples[place + 1]])
+    }
+}

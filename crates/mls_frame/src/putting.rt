@@ -1,0 +1,143 @@
+//! The one spelling of a frame.
+
+ghost use Rattle.std.specs.Prelude.{◌≡◌, ℕ, ◌+◌, ◌*◌, ◌<◌, ◌≤◌, ◌^◌, [], ◌∷◌, ◌++◌, length, OnOk, OnErr, vec_len, vec_capacity};
+ghost use Rattle.std.specs.List.{flat_map};
+ghost use Rattle.mls_model.specs.Frames.{u16, u32, body, spelling, piece_head, IsFrame};
+ghost use Rattle.mls_frame.specs.Owned.{owned_frame, owned_piece};
+
+use crate::frames::{Frame, Piece};
+use mls_base::faults::NoMemory;
+
+/// Appends bytes for which there is room.
+fn add(out: &mut Vec<u8>, bytes: &[u8])
+    requires { vec_len out.old + length bytes.now ≤ vec_capacity out.old }
+    ensures items { out.new.items ≡ out.old.items ++ bytes.now }
+    ensures len { vec_len out.new ≡ vec_len out.old + length bytes.now }
+    ensures room { vec_capacity out.old ≤ vec_capacity out.new }
+{
+    match out.extend_from_slice(bytes) {
+        Ok(()) => {}
+        Err(_) => unreachable!(),
+    }
+}
+
+/// Appends a kind byte with a group and a life.
+fn add_sign(out: &mut Vec<u8>, kind: u8, group: u32, life: u32)
+    requires { vec_len out.old + 9 ≤ vec_capacity out.old }
+    ensures { out.new.items ≡ out.old.items ++ (kind ∷ (u32 group ++ u32 life)) }
+{
+    add(out, &[kind]);
+    add(out, &group.to_be_bytes());
+    add(out, &life.to_be_bytes());
+}
+
+fn add_hello(out: &mut Vec<u8>, version: u16, group: u32, life: u32, client: u16, rank: u16)
+    requires { vec_len out.old + 15 ≤ vec_capacity out.old }
+    ensures { out.new.items ≡ out.old.items ++ (6 ∷ (u16 version ++ (u32 group ++ (u32 life ++ (u16 client ++ u16 rank))))) }
+{
+    add(out, &[6]);
+    add(out, &version.to_be_bytes());
+    add(out, &group.to_be_bytes());
+    add(out, &life.to_be_bytes());
+    add(out, &client.to_be_bytes());
+    add(out, &rank.to_be_bytes());
+}
+
+fn add_samples(out: &mut Vec<u8>, samples: &[u16])
+    requires { vec_len out.old + 2 * length samples.now ≤ vec_capacity out.old }
+    ensures { out.new.items ≡ out.old.items ++ flat_map u16 samples.now }
+{
+    for x in samples {
+        add(out, &x.to_be_bytes());
+    }
+}
+
+#[tactic(auto, unfolding(mls_model::specs::Frames::piece_head))]
+fn add_head(out: &mut Vec<u8>, piece: &Piece)
+    requires { vec_len out.old + 24 ≤ vec_capacity out.old }
+    ensures items { out.new.items ≡ out.old.items ++ piece_head (owned_piece piece.now) }
+    ensures len { vec_len out.new ≡ vec_len out.old + 24 }
+    ensures room { vec_capacity out.old ≤ vec_capacity out.new }
+{
+    add(out, &piece.life.to_be_bytes());
+    add(out, &piece.group.to_be_bytes());
+    add(out, &piece.step.to_be_bytes());
+    add(out, &piece.client.to_be_bytes());
+    add(out, &piece.rows.to_be_bytes());
+    add(out, &piece.first.to_be_bytes());
+    add(out, &piece.count.to_be_bytes());
+}
+
+/// Appends the body of a piece.
+fn add_piece(out: &mut Vec<u8>, piece: &Piece)
+    requires { vec_len out.old + (25 + 2 * length piece.now.samples) ≤ vec_capacity out.old }
+    ensures { out.new.items ≡ out.old.items ++ (1 ∷ (piece_head (owned_piece piece.now) ++ flat_map u16 piece.now.samples)) }
+{
+    add(out, &[1]);
+    add_head(out, piece);
+    add_samples(out, piece.samples.as_slice());
+}
+
+/// Appends the body of a frame.
+#[tactic(auto, unfolding(mls_model::specs::Frames::body))]
+fn add_body(out: &mut Vec<u8>, frame: &Frame)
+    requires { vec_len out.old + length (body (owned_frame frame.now)) ≤ vec_capacity out.old }
+    ensures { out.new.items ≡ out.old.items ++ body (owned_frame frame.now) }
+{
+    match frame {
+        Frame::Piece(piece) => add_piece(out, piece),
+        Frame::Beat { group, life } => add_sign(out, 2, *group, *life),
+        Frame::Bye { group, life } => add_sign(out, 3, *group, *life),
+        Frame::Save => add(out, &[4]),
+        Frame::Crash => add(out, &[5]),
+        Frame::Hello {
+            version,
+            group,
+            life,
+            client,
+            rank,
+        } => add_hello(out, *version, *group, *life, *client, *rank),
+        Frame::Welcome { lane } => {
+            add(out, &[7]);
+            add(out, &lane.to_be_bytes());
+        }
+        Frame::Refuse { reason, value } => {
+            add(out, &[8, *reason]);
+            add(out, &value.to_be_bytes());
+        }
+    }
+}
+
+/// The length of a frame's body in bytes.
+#[tactic(auto, unfolding(mls_model::specs::Frames::body))]
+fn body_length(frame: &Frame) -> u32
+    ensures exact { result ≡ length (body (owned_frame frame.now)) }
+    ensures bound { result ≤ 67108864 }
+{
+    match frame {
+        Frame::Piece(piece) => 25 + 2 * (piece.rows as u32 * piece.count),
+        Frame::Beat { .. } | Frame::Bye { .. } => 9,
+        Frame::Save | Frame::Crash => 1,
+        Frame::Hello { .. } => 15,
+        Frame::Welcome { .. } => 5,
+        Frame::Refuse { .. } => 6,
+    }
+}
+
+/// Appends the frame's one spelling. After want of memory the bytes are as before.
+#[tactic(auto, unfolding(mls_model::specs::Frames::spelling))]
+pub fn put(frame: &Frame, out: &mut Vec<u8>) -> Result<(), NoMemory>
+    ensures ok { OnOk result (out.new.items ≡ out.old.items ++ spelling (owned_frame frame.now)) }
+    ensures err { OnErr result (out.new.items ≡ out.old.items) }
+    // Want of memory comes only where there was no room for the spelling.
+    ensures full { OnErr result (vec_capacity out.old < vec_len out.old + length (spelling (owned_frame frame.now))) }
+{
+    let size = body_length(frame);
+    match out.reserve(4 + size as usize) {
+        Ok(()) => {}
+        Err(_) => return Err(NoMemory),
+    }
+    add(out, &size.to_be_bytes());
+    add_body(out, frame);
+    Ok(())
+}

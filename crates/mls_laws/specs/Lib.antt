@@ -1,0 +1,3 @@
+pub mod LastSave
+pub mod OneMore
+pub mod Fitting

@@ -1,0 +1,109 @@
+//! A set of keys, each a group and a plane, as one bit a key.
+
+ghost use Rattle.std.specs.Prelude.{◌≡◌, ◌==◌, ◌+◌, ◌*◌, ◌/◌, ◌<◌, ℕ, cond, false, length, IfOk, ◌||◌, ◌&&◌};
+ghost use Rattle.mls_model.specs.Studies.{planes};
+ghost use Rattle.mls_ledger.specs.MarkSets.{row_len, is_marked, marked};
+
+use mls_base::faults::NoMemory;
+use mls_base::shape::Shape;
+use std::alloc::Global;
+use std::marker::Model;
+
+/// A set of keys of a study. A key is a group and the number of a plane. It has one bit for each key, and the number of keys of each plane.
+#[derive(Drop)]
+pub struct Marks {
+    groups: u32,
+    planes: u32,
+    bytes: Vec<u8>,
+    counts: Vec<u32>,
+}
+
+impl Model for Marks {
+    ghost use Rattle.mls_ledger.specs.MarkSets.{MarkSet, KeepsMarks};
+
+    ghost Value = { MarkSet };
+
+    ghost view = { λ m. record { groups = m.groups; planes = m.planes; bytes = m.bytes.items } };
+
+    ghost invariant = { λ m. KeepsMarks (record { groups = m.groups; planes = m.planes; bytes = m.bytes.items }) m.counts.items };
+}
+
+impl Marks {
+    /// The empty set of keys of a study.
+    pub fn new(alloc: Global, shape: &Shape) -> Result<Marks, NoMemory>
+        ensures groups { IfOk result (λ marks. marks.groups ≡ shape.now.groups) }
+        ensures planes { IfOk result (λ marks. marks.planes ≡ planes shape.now) }
+        ensures empty { IfOk result (λ marks. (group plane : ℕ) → is_marked marks group plane ≡ false) }
+        ensures none { IfOk result (λ marks. (plane : ℕ) → marked marks plane ≡ 0) }
+    {
+        shape.valid();
+        let groups = shape.groups();
+        let planes = shape.planes();
+        let size = planes as usize * ((groups as usize + 7) / 8);
+        let bytes = vec![in alloc; 0u8; size]?;
+        let counts = vec![in alloc; 0u32; planes as usize]?;
+        Ok(Marks {
+            groups,
+            planes,
+            bytes,
+            counts,
+        })
+    }
+
+    /// Where a key's byte is.
+    fn place(&self, group: u32, plane: u32) -> usize
+        requires group_in { group < self.now.groups }
+        requires plane_in { plane < self.now.planes }
+        ensures value { result ≡ plane * row_len self.now.groups + group / 8 }
+        ensures within { result < length self.now.bytes }
+    {
+        let row = (self.groups as usize + 7) / 8;
+        plane as usize * row + group as usize / 8
+    }
+
+    /// Whether a key is in the set. No key that the study lacks is.
+    pub fn has(&self, group: u32, plane: u32) -> bool
+        ensures { result ≡ is_marked self.now group plane }
+    {
+        if group >= self.groups || plane >= self.planes {
+            return false;
+        }
+        let byte = self.bytes[self.place(group, plane)];
+        (byte >> (group % 8)) & 1 == 1
+    }
+
+    /// Puts a key into the set.
+    pub fn set(&mut self, group: u32, plane: u32)
+        requires group_in { group < self.old.groups }
+        requires plane_in { plane < self.old.planes }
+        requires absent { is_marked self.old group plane ≡ false }
+        ensures groups { self.new.groups ≡ self.old.groups }
+        ensures planes { self.new.planes ≡ self.old.planes }
+        ensures marked { (g p : ℕ) → is_marked self.new g p ≡ (is_marked self.old g p || ((g == group) && (p == plane))) }
+        ensures counted { (p : ℕ) → marked self.new p ≡ cond (p == plane) (marked self.old p + 1) (marked self.old p) }
+        ensures room { marked self.old plane < self.old.groups }
+    {
+        let place = self.place(group, plane);
+        self.bytes[place] |= 1 << (group % 8);
+        self.counts[plane as usize] += 1;
+    }
+
+    /// The number of keys of a plane.
+    pub fn count(&self, plane: u32) -> u32
+        requires { plane < self.now.planes }
+        ensures { result ≡ marked self.now plane }
+    {
+        self.counts[plane as usize]
+    }
+
+    /// Takes all keys out.
+    pub fn reset(&mut self)
+        ensures groups { self.new.groups ≡ self.old.groups }
+        ensures planes { self.new.planes ≡ self.old.planes }
+        ensures empty { (group plane : ℕ) → is_marked self.new group plane ≡ false }
+        ensures none { (plane : ℕ) → marked self.new plane ≡ 0 }
+    {
+        self.bytes.fill(0);
+        self.counts.fill(0);
+    }
+}

@@ -1,0 +1,5 @@
+pub mod Spread
+pub mod Differences
+pub mod Deviations
+pub mod Translates
+pub mod Bounds

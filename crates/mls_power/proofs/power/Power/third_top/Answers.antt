@@ -1,0 +1,24 @@
+use Rattle.std.proofs.Common.{◌∙◌, ◌+◌, ◌*◌, arith}
+use Rattle.std.proofs.lemmas.Int.{ints}
+use Rattle.mls_power.proofs.Bounds.{small_cube, cast_difference, third_from}
+use Rattle.mls_power.proofs.power.Power.third_top.Goals as goal
+
+pub overflow_mul-over-4 : goal.overflow_mul-over-4
+overflow_mul-over-4 c =
+    let small = small_cube c.args.self.now.count c.p1-first.result 0 0 (record { count = omega arith; first = omega arith; second = omega arith; third = omega arith }) in
+    omega (arith, small.0)
+
+pub overflow_sub-result : goal.overflow_sub-result
+overflow_sub-result c =
+    let small = small_cube c.args.self.now.count c.p1-first.result c.p2.result c.p3.result (record { count = omega arith; first = omega arith; second = omega arith; third = omega arith }) in
+    omega (arith, ints, small.1, small.2)
+
+pub returns : goal.returns
+returns c =
+    let p = c.args.self.now in
+    let n = p.count in
+    let p1 = c.p1-first.result in
+    let p2 = c.p2.result in
+    let p3 = c.p3.result in
+    let small = small_cube n p1 p2 p3 (record { count = omega arith; first = omega arith; second = omega arith; third = omega arith }) in
+    λ ws stands. cast_difference (n * n * p3 + 2 * (p1 * p1 * p1)) (3 * (n * p1 * p2)) small.1 small.2 ∙ third_from n p1 p2 p3 ws stands.count (c.p1-first.ensures ∙ stands.first) (c.p2.ensures ∙ stands.second) (c.p3.ensures ∙ stands.third)

@@ -1,0 +1,2 @@
+pub mod PowerSums
+pub mod Standing

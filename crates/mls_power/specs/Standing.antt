@@ -1,0 +1,28 @@
+-- When power sums stand for a list of samples.
+use Rattle.std.specs.Prelude.{◌≡◌, ℕ, ◌*◌, List, length, sum_by}
+use Rattle.mls_power.specs.declared.power.Power.{Power}
+use Rattle.mls_power.specs.PowerSums.{first_in, second_in, third_in, fourth_in}
+
+-- what the readers give
+abbrev pub count_of : Power → ℕ
+count_of p = p.count
+
+abbrev pub first_of : Power → ℕ
+first_of p = first_in p.sums
+
+abbrev pub second_of : Power → ℕ
+second_of p = second_in p.sums
+
+abbrev pub third_of : Power → ℕ
+third_of p = third_in p.sums
+
+abbrev pub fourth_of : Power → ℕ
+fourth_of p = fourth_in p.sums
+
+-- the number of the samples, and the sums of their powers
+pub record StandsFor (p : Power) (ws : List ℕ) : Type 0 where
+  pub count : count_of p ≡ length ws
+  pub first : first_of p ≡ sum_by (λ w. w) ws
+  pub second : second_of p ≡ sum_by (λ w. w * w) ws
+  pub third : third_of p ≡ sum_by (λ w. w * w * w) ws
+  pub fourth : fourth_of p ≡ sum_by (λ w. w * w * (w * w)) ws
