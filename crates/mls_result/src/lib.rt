@@ -1,0 +1,4 @@
+//! The result text: what a study's ranks hold, printed.
+#![tactic(auto)]
+
+pub mod lines;

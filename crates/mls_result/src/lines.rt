@@ -1,0 +1,204 @@
+//! The lines of the result text, one function a line.
+
+ghost use Rattle.std.specs.Prelude.{◌≡◌, ℕ, ◌+◌, ◌*◌, ◌<◌, ◌≤◌, ◌++◌, [], ◌∷◌, ℤ, pos, codes, decimal};
+ghost use Rattle.mls_model.specs.Numbers.{joined};
+ghost use Rattle.mls_model.specs.ResultText.{rank_line, lane_line, kind_word, end_words};
+ghost use Rattle.mls_text.specs.Writing.{Writes};
+ghost use Rattle.mls_result.specs.Words.{line_end, lane_start, power_words, variance_words, third_words};
+
+use itoa::Buffer;
+use mls_base::faults::Failed;
+use mls_base::outside::Sink;
+use mls_model::lanes::{LaneEnd, LaneKind, LaneLine};
+use mls_model::outcomes::Counts;
+use mls_text::{put_bytes, put_pieces};
+
+/// Writes the counts of a rank.
+#[tactic(auto, unfolding(mls_model::specs::ResultText::rank_line))]
+pub fn put_rank<O: Sink>(out: &mut O, rank: u32, counts: &Counts) -> Result<(), Failed>
+    ensures { Writes result (rank_line rank counts.now) (O.told out.old) (O.told out.new) (O.faults out.old) (O.faults out.new) }
+{
+    let mut number = Buffer::new();
+    let mut accepted = Buffer::new();
+    let mut kept = Buffer::new();
+    let mut replay = Buffer::new();
+    let mut stale = Buffer::new();
+    let mut repeated = Buffer::new();
+    let mut f1 = Buffer::new();
+    let mut f2 = Buffer::new();
+    let mut f3 = Buffer::new();
+    let mut f4 = Buffer::new();
+    let mut f5 = Buffer::new();
+    let mut f6 = Buffer::new();
+    put_pieces(
+        out,
+        &[
+            b"rank ".as_slice(),
+            number.format(rank).as_bytes(),
+            b" accepted ".as_slice(),
+            accepted.format(counts.accepted).as_bytes(),
+            b" kept ".as_slice(),
+            kept.format(counts.kept).as_bytes(),
+            b" replay ".as_slice(),
+            replay.format(counts.replay).as_bytes(),
+            b" stale ".as_slice(),
+            stale.format(counts.stale).as_bytes(),
+            b" repeated ".as_slice(),
+            repeated.format(counts.repeated).as_bytes(),
+            b" foreign ".as_slice(),
+            f1.format(counts.f1).as_bytes(),
+            b" ".as_slice(),
+            f2.format(counts.f2).as_bytes(),
+            b" ".as_slice(),
+            f3.format(counts.f3).as_bytes(),
+            b" ".as_slice(),
+            f4.format(counts.f4).as_bytes(),
+            b" ".as_slice(),
+            f5.format(counts.f5).as_bytes(),
+            b" ".as_slice(),
+            f6.format(counts.f6).as_bytes(),
+            b"\n".as_slice(),
+        ],
+    )
+}
+
+fn kind_bytes(kind: LaneKind) -> &'static [u8]
+    ensures { result.now ≡ kind_word kind }
+{
+    match kind {
+        LaneKind::Client => b"client".as_slice(),
+        LaneKind::Control => b"control".as_slice(),
+    }
+}
+
+/// Writes words and a place.
+#[tactic(auto, using(mls_text::proofs::Writing::chain))]
+fn put_place<O: Sink>(out: &mut O, words: &[u8], at: u64) -> Result<(), Failed>
+    ensures { Writes result (words.now ++ decimal at) (O.told out.old) (O.told out.new) (O.faults out.old) (O.faults out.new) }
+{
+    let mut place = Buffer::new();
+    put_bytes(out, words)?;
+    put_bytes(out, place.format(at).as_bytes())
+}
+
+/// Ends a line.
+#[tactic(auto, unfolding(crate::specs::Words::line_end))]
+fn put_line_end<O: Sink>(out: &mut O) -> Result<(), Failed>
+    ensures { Writes result line_end (O.told out.old) (O.told out.new) (O.faults out.old) (O.faults out.new) }
+{
+    put_bytes(out, b"\n")
+}
+
+/// Writes power sums of values.
+#[tactic(auto, unfolding(crate::specs::Words::power_words))]
+pub fn put_powers<O: Sink>(out: &mut O, p1: i64, p2: u64, p3: i128, p4: i128) -> Result<(), Failed>
+    ensures { Writes result (power_words p1 (pos p2) p3 p4) (O.told out.old) (O.told out.new) (O.faults out.old) (O.faults out.new) }
+{
+    let mut first = Buffer::new();
+    let mut second = Buffer::new();
+    let mut third = Buffer::new();
+    let mut fourth = Buffer::new();
+    put_pieces(
+        out,
+        &[
+            b"power ".as_slice(),
+            first.format(p1).as_bytes(),
+            b" ".as_slice(),
+            second.format(p2).as_bytes(),
+            b" ".as_slice(),
+            third.format(p3).as_bytes(),
+            b" ".as_slice(),
+            fourth.format(p4).as_bytes(),
+            b"\n".as_slice(),
+        ],
+    )
+}
+
+/// Writes a variance over N values: its top over N · (N − 1).
+#[tactic(auto, unfolding(crate::specs::Words::variance_words))]
+pub fn put_variance<O: Sink>(out: &mut O, top: i128, n: u32) -> Result<(), Failed>
+    requires { 1 ≤ n }
+    ensures { Writes result (variance_words top n) (O.told out.old) (O.told out.new) (O.faults out.old) (O.faults out.new) }
+{
+    let mut over = Buffer::new();
+    let mut under = Buffer::new();
+    let n = n as u64;
+    put_pieces(
+        out,
+        &[
+            b"variance ".as_slice(),
+            over.format(top).as_bytes(),
+            b"/".as_slice(),
+            under.format(n * (n - 1)).as_bytes(),
+            b"\n".as_slice(),
+        ],
+    )
+}
+
+/// Writes a third central moment over N values: its top over N³.
+#[tactic(auto, unfolding(crate::specs::Words::third_words))]
+pub fn put_third<O: Sink>(out: &mut O, top: i128, n: u32) -> Result<(), Failed>
+    requires { n ≤ 131070 }
+    ensures { Writes result (third_words top n) (O.told out.old) (O.told out.new) (O.faults out.old) (O.faults out.new) }
+{
+    let mut over = Buffer::new();
+    let mut under = Buffer::new();
+    let n = n as u64;
+    put_pieces(
+        out,
+        &[
+            b"third ".as_slice(),
+            over.format(top).as_bytes(),
+            b"/".as_slice(),
+            under.format(n * (n * n)).as_bytes(),
+            b"\n".as_slice(),
+        ],
+    )
+}
+
+/// Writes how a lane ended.
+fn put_end<O: Sink>(out: &mut O, end: LaneEnd) -> Result<(), Failed>
+    ensures { Writes result (end_words end) (O.told out.old) (O.told out.new) (O.faults out.old) (O.faults out.new) }
+{
+    match end {
+        LaneEnd::Clean => return put_bytes(out, b"clean"),
+        LaneEnd::Cut { at } => return put_place(out, b"cut at ", at),
+        LaneEnd::BadKind { at } => return put_place(out, b"bad-kind at ", at),
+        LaneEnd::BadLength { at } => return put_place(out, b"bad-length at ", at),
+        LaneEnd::Fault { at } => return put_place(out, b"fault at ", at),
+        LaneEnd::Full { at } => return put_place(out, b"full at ", at),
+    }
+}
+
+/// Begins what is said of a lane.
+#[tactic(auto, unfolding(crate::specs::Words::lane_start))]
+fn put_lane_start<O: Sink>(out: &mut O, line: &LaneLine) -> Result<(), Failed>
+    ensures { Writes result (lane_start line.now) (O.told out.old) (O.told out.new) (O.faults out.old) (O.faults out.new) }
+{
+    let mut lane = Buffer::new();
+    let mut rank = Buffer::new();
+    let mut events = Buffer::new();
+    put_pieces(
+        out,
+        &[
+            b"lane ".as_slice(),
+            lane.format(line.lane).as_bytes(),
+            b" rank ".as_slice(),
+            rank.format(line.rank).as_bytes(),
+            b" ".as_slice(),
+            kind_bytes(line.kind),
+            b" events ".as_slice(),
+            events.format(line.events).as_bytes(),
+            b" ".as_slice(),
+        ],
+    )
+}
+
+/// Writes what is said of a lane.
+pub fn put_lane<O: Sink>(out: &mut O, line: &LaneLine) -> Result<(), Failed>
+    ensures { Writes result (lane_line line.now) (O.told out.old) (O.told out.new) (O.faults out.old) (O.faults out.new) }
+{
+    put_lane_start(out, line)?;
+    put_end(out, line.end)?;
+    put_line_end(out)
+}
