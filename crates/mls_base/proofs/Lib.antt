@@ -2,3 +2,4 @@ mod Rising
 mod Padding
 mod Ranges
 pub mod Told
+mod Pieces

@@ -81,9 +81,9 @@ wrong_kinds = client_lane (sent 0 1 (1 ∷ 3 ∷ 3 ∷ []) ∷ crash ∷ []) ∷
 abbrev pub faulty_lanes : List Lane
 faulty_lanes = client_lane (
     piece (record { life = 1; group = 2; plane = 1; client = 1; rows = 2; first = 1; count = 1; samples = 1 ∷ 2 ∷ [] })
-  ∷ piece (record { life = 1; group = 2; plane = 1; client = 1; rows = 3; first = 1; count = 1; samples = 1 ∷ 2 ∷ 3 ∷ [] })
-  ∷ piece (record { life = 1; group = 1; plane = 1; client = 1; rows = 3; first = 1; count = 1; samples = 1 ∷ 2 ∷ 3 ∷ [] })
-  ∷ piece (record { life = 1; group = 1; plane = 0; client = 1; rows = 3; first = 1; count = 1; samples = 1 ∷ 2 ∷ 3 ∷ [] })
-  ∷ piece (record { life = 1; group = 1; plane = 0; client = 0; rows = 3; first = 1; count = 1; samples = 1 ∷ 2 ∷ 3 ∷ [] })
-  ∷ piece (record { life = 1; group = 1; plane = 0; client = 0; rows = 3; first = 0; count = 1; samples = 1 ∷ 2 ∷ 3 ∷ [] })
-  ∷ []) ∷ []
+    ∷ piece (record { life = 1; group = 2; plane = 1; client = 1; rows = 3; first = 1; count = 1; samples = 1 ∷ 2 ∷ 3 ∷ [] })
+    ∷ piece (record { life = 1; group = 1; plane = 1; client = 1; rows = 3; first = 1; count = 1; samples = 1 ∷ 2 ∷ 3 ∷ [] })
+    ∷ piece (record { life = 1; group = 1; plane = 0; client = 1; rows = 3; first = 1; count = 1; samples = 1 ∷ 2 ∷ 3 ∷ [] })
+    ∷ piece (record { life = 1; group = 1; plane = 0; client = 0; rows = 3; first = 1; count = 1; samples = 1 ∷ 2 ∷ 3 ∷ [] })
+    ∷ piece (record { life = 1; group = 1; plane = 0; client = 0; rows = 3; first = 0; count = 1; samples = 1 ∷ 2 ∷ 3 ∷ [] })
+    ∷ []) ∷ []

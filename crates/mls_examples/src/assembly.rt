@@ -46,8 +46,7 @@ pub fn two_lives_sent_again()
 pub fn late_pieces()
     ensures outcomes { outcomes small_study.sizes 0 (survivors late_lanes (plain 1 late_lanes) 0) ≡ Accepted ∷ Replay ∷ Replay ∷ Replay ∷ [] }
     ensures rows { rows_of small_study late_lanes (plain 1 late_lanes) 0 0 ≡ (pos 1 ∷ pos 3 ∷ pos 3 ∷ []) ∷ [] }
-{
-}
+{}
 
 /// Twelve lanes to three ranks: rank 1 waits for a second client six times, and each cell has its own samples.
 pub fn twelve_lanes_to_three_ranks()
@@ -55,5 +54,4 @@ pub fn twelve_lanes_to_three_ranks()
     ensures rank_lines { rank_lines (counts_of three_ranks twelve_lanes (plain 3 twelve_lanes)) ≡ three_rank_lines }
     ensures step_0 { map (rows_of three_ranks twelve_lanes (plain 3 twelve_lanes) 0) (below 10) ≡ map (telling_rows 0) (below 10) }
     ensures step_1 { map (rows_of three_ranks twelve_lanes (plain 3 twelve_lanes) 1) (below 10) ≡ map (telling_rows 1) (below 10) }
-{
-}
+{}

@@ -49,22 +49,19 @@ pub fn foreign_events()
 /// The reasons for which a piece is foreign are tried in one order: each piece has one fault less than the one before it.
 pub fn reasons_in_order()
     ensures outcomes { outcomes small_study.sizes 0 (survivors faulty_lanes (plain 1 faulty_lanes) 0) ≡ Foreign reason.Rows ∷ Foreign reason.Group ∷ Foreign reason.Step ∷ Foreign reason.Client ∷ Foreign reason.Cells ∷ Accepted ∷ [] }
-{
-}
+{}
 
 /// A crash on a client lane loses nothing, and a piece on a control lane is not taken.
 pub fn frames_on_wrong_lanes()
     ensures outcomes { outcomes small_study.sizes 0 (survivors wrong_kinds (plain 1 wrong_kinds) 0) ≡ Accepted ∷ Foreign reason.LaneKind ∷ Foreign reason.LaneKind ∷ [] }
-{
-}
+{}
 
 /// What a group sends after its greeting has 61 bytes, and is read as a beat, a piece and a bye.
 pub fn lane_of_a_group()
     ensures size { length (joined (map spelling group_frames)) ≡ 61 }
     ensures lane { lane_of 0 Client (joined (map spelling group_frames)) ≡ client_lane group_frames }
     ensures outcomes { outcomes small_study.sizes 0 (survivors (client_lane group_frames ∷ []) (plain 1 (client_lane group_frames ∷ [])) 0) ≡ Quiet ∷ Accepted ∷ Quiet ∷ [] }
-{
-}
+{}
 
 /// Bytes that are no frame: how a lane of them ends. A piece without rows is a frame, and is foreign.
 pub fn hostile_lanes()

@@ -1,0 +1,4 @@
+pub mod Division
+pub mod Greatest
+pub mod Index
+pub mod Millionths

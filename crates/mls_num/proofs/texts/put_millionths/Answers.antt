@@ -1,0 +1,7 @@
+use Rattle.std.proofs.Common.{to_z-of_z}
+use Rattle.std.proofs.lemmas.Str.{IsUtf8-from_ascii}
+use Rattle.mls_num.proofs.Millionths.{words_ascii}
+use Rattle.mls_num.proofs.texts.put_millionths.Goals as goal
+
+pub from_utf8_unchecked-requires : goal.from_utf8_unchecked-requires
+from_utf8_unchecked-requires c = IsUtf8-from_ascii _ (rw (c.write_millionths-start.ensures.written, to_z-of_z c.ranges.m) (words_ascii c.args.m c.requires.low c.requires.high))
