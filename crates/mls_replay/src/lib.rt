@@ -1,0 +1,4 @@
+//! The serial fold.
+#![tactic(auto)]
+
+pub fn nothing() {}
