@@ -3,6 +3,7 @@ pub mod Statistics
 pub mod Assembly
 pub mod Crashes
 pub mod Lanes
+pub mod Largest
 pub mod Fields
 pub mod Samples
 pub mod Studies

@@ -1,12 +1,13 @@
 //! What the result text says of the samples of one cell.
 
-ghost use Rattle.std.specs.Prelude.{◌≡◌, List, [], ◌∷◌, pos, Result, Ok, false};
+ghost use Rattle.std.specs.Prelude.{◌≡◌, List, [], ◌∷◌, pos, negsuc, Result, Ok, false};
 ghost use Rattle.mls_model.specs.Lanes.{tape_of};
-ghost use Rattle.mls_model.specs.ResultText.{result_text, rows_of};
+ghost use Rattle.mls_model.specs.ResultText.{result_text, rows_of, cell_text};
 ghost use Rattle.mls_model.specs.Schedules.{plain};
 ghost use Rattle.mls_examples.specs.Small.{small_study};
 ghost use Rattle.mls_examples.specs.Statistics.{two_groups_lanes, two_groups_text, all_shown, all_shown_text, power_alone, power_alone_text, replay_lanes, replay_text, no_lane_text, one_group_lanes, one_group_text, three_groups, three_groups_lanes, three_groups_text, extrema_alone, extrema_alone_text};
 ghost use Rattle.mls_examples.specs.Lanes.{two_groups_tape, no_lane_tape};
+ghost use Rattle.mls_examples.specs.Largest.{most_groups, most_signed_groups, equal_rows, largest_cell, least_cell};
 
 /// Two groups on one lane: the tape's 87 bytes, the rows of the cell, and the whole text.
 pub fn two_groups()
@@ -49,4 +50,14 @@ pub fn three_groups_cut_off()
 /// The same lane where extrema and the numbers above the thresholds 0 and 1 are shown alone.
 pub fn extrema_and_exceed_alone()
     ensures text { result_text extrema_alone three_groups_lanes (plain 1 three_groups_lanes) ≡ extrema_alone_text }
+{}
+
+/// What is said of a cell with as many groups as a study may have, where each sample is the greatest.
+pub fn largest_samples()
+    ensures cell { cell_text most_groups 0 0 0 (equal_rows (pos 65535)) ≡ largest_cell }
+{}
+
+/// The same where each sample is the least of those with a sign.
+pub fn least_samples()
+    ensures cell { cell_text most_signed_groups 0 0 0 (equal_rows (negsuc 32767)) ≡ least_cell }
 {}
