@@ -21,3 +21,16 @@ pub fn put_all<O: Sink>(out: &mut O, bytes: &[u8]) -> Result<(), Failed>
     }
     Ok(())
 }
+
+/// Writes the pieces in a row. After `Failed` a front of them went out.
+pub fn put_pieces<O: Sink>(out: &mut O, pieces: &[&[u8]]) -> Result<(), Failed>
+    ensures written { OnOk result (O.told out.new ≡ appended (O.told out.old) (joined (map (λ piece. piece.now) pieces.now))) }
+    ensures faultless { OnOk result (O.faults out.new ≡ O.faults out.old) }
+    ensures front { OnErr result (WroteFront (O.told out.old) (O.told out.new) (joined (map (λ piece. piece.now) pieces.now))) }
+    ensures rose { OnErr result (Rose (O.faults out.old) (O.faults out.new)) }
+{
+    for piece in pieces {
+        put_all(out, piece)?;
+    }
+    Ok(())
+}

@@ -2,7 +2,7 @@
 
 ghost use Rattle.std.specs.Prelude.{◌≡◌, ℕ, ◌+◌, ◌*◌, ◌<◌, ◌≤◌, ◌++◌, [], ◌∷◌, ℤ, pos, codes, decimal};
 ghost use Rattle.mls_model.specs.Numbers.{joined};
-ghost use Rattle.mls_model.specs.ResultText.{rank_line, lane_line, kind_word, end_words};
+ghost use Rattle.mls_model.specs.ResultText.{rank_line, lane_line, lane_lines, kind_word, end_words};
 ghost use Rattle.mls_text.specs.Writing.{Writes};
 ghost use Rattle.mls_result.specs.Words.{line_end, lane_start, power_words, variance_words, third_words};
 
@@ -201,4 +201,15 @@ pub fn put_lane<O: Sink>(out: &mut O, line: &LaneLine) -> Result<(), Failed>
     put_lane_start(out, line)?;
     put_end(out, line.end)?;
     put_line_end(out)
+}
+
+/// Writes what is said of each lane.
+#[tactic(auto, unfolding(mls_model::specs::ResultText::lane_lines))]
+pub fn put_lanes<O: Sink>(out: &mut O, lines: &[LaneLine]) -> Result<(), Failed>
+    ensures { Writes result (lane_lines lines.now) (O.told out.old) (O.told out.new) (O.faults out.old) (O.faults out.new) }
+{
+    for line in lines {
+        put_lane(out, line)?;
+    }
+    Ok(())
 }

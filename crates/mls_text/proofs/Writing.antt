@@ -1,6 +1,6 @@
 -- How texts that are written one after another make one text.
-use Rattle.std.proofs.Common.{◌≡◌, List, [], ◌∷◌, ℕ, ◌++◌, ◌<◌, length, Option, Some, None, take, drop, map, refl, sym, ◌∙◌, ap, subst, append_assoc, Result, Ok, Err, arith, rules, get_or}
-use Rattle.std.proofs.lemmas.List.{take-append-drop}
+use Rattle.std.proofs.Common.{◌≡◌, List, [], ◌∷◌, ℕ, ◌++◌, ◌<◌, ◌≤◌, length, Option, Some, None, take, drop, map, refl, sym, ◌∙◌, ap, subst, append_assoc, Result, Ok, Err, arith, rules, get_or}
+use Rattle.std.proofs.lemmas.List.{take-append-drop, drop_all}
 use Rattle.std.proofs.Common.{add-one, drop-cons, ◌+◌}
 use Rattle.mls_model.specs.Numbers.{joined}
 use Rattle.std.specs.List.{flat_map}
@@ -105,20 +105,28 @@ pub failed_writes : {A : Type 0} (Q : Failed → Type 0) (r : Result A Failed) (
 failed_writes Q (Ok x) text old new before now e w rose = absurd e
 failed_writes Q (Err f) text old new before now e w rose = (w, rose)
 
--- the piece at a place, and the pieces after it
-pieces_at : {X : Type 0} (f : X → List ℕ) (i : ℕ) (xs : List X) (d : X) → i < length xs → joined (map f (drop i xs)) ≡ f (get_or xs i d) ++ joined (map f (drop (i + 1) xs))
-pieces_at f i xs d here = ap (λ ys. joined (map f ys)) (drop-cons xs i d here) ∙ ap (λ n. f (get_or xs i d) ++ joined (map f (drop n xs))) (sym (add-one i))
+-- the text of the element at a place, and the texts after it
+texts_at : {X : Type 0} (f : X → List ℕ) (i : ℕ) (xs : List X) (d : X) → i < length xs → flat_map f (drop i xs) ≡ f (get_or xs i d) ++ flat_map f (drop (i + 1) xs)
+texts_at f i xs d here = ap (λ ys. flat_map f ys) (drop-cons xs i d here) ∙ ap (λ n. f (get_or xs i d) ++ flat_map f (drop n xs)) (sym (add-one i))
 
--- a loop over pieces: one more is out, or its write failed
-pub piece_more : {X : Type 0} (f : X → List ℕ) (i : ℕ) (xs : List X) (d : X) (text : List ℕ) (old mid new : Option (List ℕ)) (before now after : ℕ) → i < length xs → IsFrontOut (joined (map f (drop i xs))) text old mid before now → new ≡ appended mid (f (get_or xs i d)) → after ≡ now → IsFrontOut (joined (map f (drop (i + 1) xs))) text old new before after
-piece_more f i xs d text old mid new before now after here out is_new is_now =
-  front_more (f (get_or xs i d)) (joined (map f (drop (i + 1) xs))) text old mid new before now after
-    (let P : List ℕ → Type 0 = λ rest. IsFrontOut rest text old mid before now in subst P (pieces_at f i xs d here) out) is_new is_now
+-- A loop over a list writes a text for each element: it begins, one more is out, its write failed, all are out.
+pub texts_none : {X : Type 0} (f : X → List ℕ) (xs : List X) (old : Option (List ℕ)) (before : ℕ) → IsFrontOut (flat_map f (drop 0 xs)) (flat_map f xs) old old before before
+texts_none f xs old before = front_none (flat_map f xs) old before
 
-pub piece_failed : {X : Type 0} (f : X → List ℕ) (i : ℕ) (xs : List X) (d : X) (text : List ℕ) (old mid new : Option (List ℕ)) (before now : ℕ) → i < length xs → IsFrontOut (joined (map f (drop i xs))) text old mid before now → WroteFront mid new (f (get_or xs i d)) → WroteFront old new text
-piece_failed f i xs d text old mid new before now here out failed =
-  front_failed (f (get_or xs i d)) (joined (map f (drop (i + 1) xs))) text old mid new before now
-    (let P : List ℕ → Type 0 = λ rest. IsFrontOut rest text old mid before now in subst P (pieces_at f i xs d here) out) failed
+pub texts_more : {X : Type 0} (f : X → List ℕ) (i : ℕ) (xs : List X) (d : X) (text : List ℕ) (old mid new : Option (List ℕ)) (before now after : ℕ) → i < length xs → IsFrontOut (flat_map f (drop i xs)) text old mid before now → new ≡ appended mid (f (get_or xs i d)) → after ≡ now → IsFrontOut (flat_map f (drop (i + 1) xs)) text old new before after
+texts_more f i xs d text old mid new before now after here out is_new is_now =
+  front_more (f (get_or xs i d)) (flat_map f (drop (i + 1) xs)) text old mid new before now after
+    (let P : List ℕ → Type 0 = λ rest. IsFrontOut rest text old mid before now in subst P (texts_at f i xs d here) out) is_new is_now
+
+pub texts_failed : {X : Type 0} (f : X → List ℕ) (i : ℕ) (xs : List X) (d : X) (text : List ℕ) (old mid new : Option (List ℕ)) (before now : ℕ) → i < length xs → IsFrontOut (flat_map f (drop i xs)) text old mid before now → WroteFront mid new (f (get_or xs i d)) → WroteFront old new text
+texts_failed f i xs d text old mid new before now here out failed =
+  front_failed (f (get_or xs i d)) (flat_map f (drop (i + 1) xs)) text old mid new before now
+    (let P : List ℕ → Type 0 = λ rest. IsFrontOut rest text old mid before now in subst P (texts_at f i xs d here) out) failed
+
+pub texts_all : {X : Type 0} (f : X → List ℕ) (i : ℕ) (xs : List X) (text : List ℕ) (old new : Option (List ℕ)) (before now : ℕ) → length xs ≤ i → IsFrontOut (flat_map f (drop i xs)) text old new before now → new ≡ appended old text
+texts_all f i xs text old new before now past out =
+  front_all text old new before now
+    (let P : List ℕ → Type 0 = λ rest. IsFrontOut rest text old new before now in subst P (ap (flat_map f) (drop_all i xs past)) out)
 
 -- what carries a text of several parts through its writes
 pub ruleset chain = (first_failed, later_failed, both_out, writes_after, rose_since, failed_writes)

@@ -23,8 +23,5 @@ pub fn put_bytes<O: Sink>(out: &mut O, bytes: &[u8]) -> Result<(), Failed>
 pub fn put_pieces<O: Sink>(out: &mut O, pieces: &[&[u8]]) -> Result<(), Failed>
     ensures { Writes result (joined (map (λ p. p.now) pieces.now)) (O.told out.old) (O.told out.new) (O.faults out.old) (O.faults out.new) }
 {
-    for piece in pieces {
-        put_bytes(out, piece)?;
-    }
-    Ok(())
+    mls_base::put::put_pieces(out, pieces)
 }
