@@ -1,4 +1,9 @@
-//! The serial fold.
+//! The serial fold: each rank takes the events of its list in turn, and the result is written from the ranks' cores.
 #![tactic(auto)]
 
-pub fn nothing() {}
+mod calm;
+mod fold;
+mod ranks;
+
+pub use calm::is_calm;
+pub use fold::{fold, fold_cores};
