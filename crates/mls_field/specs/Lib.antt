@@ -1,1 +1,4 @@
+pub mod Cells
+pub mod Fields
 pub mod ShiftedRows
+pub mod Stands

@@ -1,8 +1,13 @@
--- The row of shifted values that a block of samples has at a place.
-use Rattle.std.specs.Prelude.{ℕ, Bool, List, map}
+-- Rows of shifted values.
+use Rattle.std.specs.Prelude.{ℕ, Bool, List, [], ◌∷◌, map, slice_index}
+use Rattle.std.specs.List.{flat_map}
 use Rattle.mls_model.specs.Numbers.{below}
 use Rattle.mls_model.specs.Samples.{shifted}
 
--- of n rows of samples by row and place
+-- the row that n rows of samples, by row and place, have at a place
 abbrev pub shifted_row : Bool → ℕ → (ℕ → ℕ → ℕ) → ℕ → List ℕ
 shifted_row signed n sample place = map (λ row. shifted signed (sample row place)) (below n)
+
+-- the samples A and B of all rows
+abbrev pub shifted_outputs : List (List ℕ) → List ℕ
+shifted_outputs rows = flat_map (λ row. slice_index row 0 ∷ slice_index row 1 ∷ []) rows

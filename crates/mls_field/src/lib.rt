@@ -1,4 +1,6 @@
 //! Sums over the rows of samples of a rank's block.
 #![tactic(auto)]
 
+mod cells;
+pub mod field;
 pub mod fold;

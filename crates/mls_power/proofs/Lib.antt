@@ -3,3 +3,4 @@ pub mod Differences
 pub mod Deviations
 pub mod Translates
 pub mod Bounds
+pub mod Values

@@ -23,3 +23,12 @@ spread_more (suc m) p q x h =
     let mixed : 2 * (p * (n * x)) ≤ p * p + n * x * (n * x) = twice_product p (n * x) in
     let whole : n * ((p + x) * (p + x)) ≤ n * ((n + 1) * (q + x * x)) = omega arith in
     le_of_mul-le-mul_left whole (omega arith)
+
+-- n numbers that are each k less have squares too
+pub lowered_squares : (n p q k : ℕ) → p ≤ 65535 * n → p * p ≤ n * q → 2 * k * p ≤ q + k * k * n
+lowered_squares zero p q k few h = let none : p ≡ 0 = omega arith in rw none (omega arith)
+lowered_squares (suc m) p q k few h =
+    let n = suc m in
+    let mixed : 2 * (p * (n * k)) ≤ p * p + n * k * (n * k) = twice_product p (n * k) in
+    let whole : n * (2 * k * p) ≤ n * (q + k * k * n) = omega arith in
+    le_of_mul-le-mul_left whole (omega arith)

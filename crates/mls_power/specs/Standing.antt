@@ -1,6 +1,8 @@
 -- When power sums stand for a list of samples.
-use Rattle.std.specs.Prelude.{◌≡◌, ℕ, ◌*◌, List, length, sum_by}
+use Rattle.std.specs.Prelude.{◌≡◌, ℕ, ◌*◌, List, length, sum_by, ℤ, pos}
+use Rattle.mls_model.specs.Statistics.{total, squares, cubes, fourths}
 use Rattle.mls_power.specs.declared.power.Power.{Power}
+use Rattle.mls_power.specs.declared.power.Powers.{Powers}
 use Rattle.mls_power.specs.PowerSums.{first_in, second_in, third_in, fourth_in}
 
 -- what the readers give
@@ -26,3 +28,10 @@ pub record StandsFor (p : Power) (ws : List ℕ) : Type 0 where
   pub second : second_of p ≡ sum_by (λ w. w * w) ws
   pub third : third_of p ≡ sum_by (λ w. w * w * w) ws
   pub fourth : fourth_of p ≡ sum_by (λ w. w * w * (w * w)) ws
+
+-- the sums of the powers of values
+pub record ArePowers (p : Powers) (values : List ℤ) : Type 0 where
+  pub first : p.p1 ≡ total values
+  pub second : pos p.p2 ≡ squares values
+  pub third : p.p3 ≡ cubes values
+  pub fourth : p.p4 ≡ fourths values

@@ -14,11 +14,26 @@ pub struct Power {
     ghost range: { AreInRange count sums },
 }
 
+/// The sums of the first to fourth powers of values.
+#[derive(Clone, Copy, Debug, PartialEq, Eq)]
+pub struct Powers {
+    pub p1: i64,
+    pub p2: u64,
+    pub p3: i128,
+    pub p4: i128,
+}
+
+// How much more a sample is than its value, where values are signed, and the square of that.
+const SHIFT: u64 = 32768;
+
+const SQUARE: u128 = 1073741824;
+
 impl Power {
-    ghost use Rattle.std.specs.Prelude.{◌≡◌, ℕ, ◌+◌, ◌*◌, ◌<◌, ◌≤◌, List, [], ◌∷◌, ◌++◌, length, map, pos};
+    ghost use Rattle.std.specs.Prelude.{◌≡◌, ℕ, ◌+◌, ◌*◌, ◌<◌, ◌≤◌, Bool, true, List, [], ◌∷◌, ◌++◌, length, map, pos};
+    ghost use Rattle.mls_model.specs.Samples.{unshifted};
     ghost use Rattle.mls_model.specs.Statistics.{variance_top, third_top};
     ghost use Rattle.mls_power.specs.PowerSums.{HoldsSums, AreInRange};
-    ghost use Rattle.mls_power.specs.Standing.{count_of, first_of, second_of, third_of, fourth_of, StandsFor};
+    ghost use Rattle.mls_power.specs.Standing.{count_of, first_of, second_of, third_of, fourth_of, StandsFor, ArePowers};
 
     /// The sums of no samples.
     pub fn new() -> Power
@@ -99,9 +114,47 @@ impl Power {
         wide(self.sums[4], self.sums[5])
     }
 
-    /// V of the samples: with N samples, N · V is the sum of (N · w − p1)², and the variance is V / (N · (N − 1)).
+    /// The power sums of the values that the samples are kept for. Where these are signed a sample is its value plus 32,768.
+    pub fn powers(&self, signed: bool) -> Powers
+        ensures { (ws : List ℕ) → StandsFor self.now ws → ArePowers result (map (unshifted signed) ws) }
+    {
+        if signed {
+            self.signed_powers()
+        } else {
+            Powers {
+                p1: self.p1() as i64,
+                p2: self.p2(),
+                p3: self.p3() as i128,
+                p4: self.p4() as i128,
+            }
+        }
+    }
+
+    // The power sums of numbers that are each 32,768 less.
+    fn signed_powers(&self) -> Powers
+        ensures { (ws : List ℕ) → StandsFor self.now ws → ArePowers result (map (unshifted true) ws) }
+    {
+        let count = self.count as u64;
+        let first = self.p1();
+        let second = self.p2();
+        let third_over = self.p3() + 3 * SQUARE * first as u128;
+        let third_under = 3 * SHIFT as u128 * second as u128
+            + SHIFT as u128 * SQUARE * count as u128;
+        let fourth_over = self.p4() + 6 * SQUARE * second as u128 + SQUARE * SQUARE * count as u128;
+        let fourth_under = 4 * SHIFT as u128 * self.p3()
+            + 4 * SHIFT as u128 * SQUARE * first as u128;
+        Powers {
+            p1: first as i64 - (SHIFT * count) as i64,
+            p2: second + SHIFT * SHIFT * count - 2 * SHIFT * first,
+            p3: third_over as i128 - third_under as i128,
+            p4: fourth_over as i128 - fourth_under as i128,
+        }
+    }
+
+    /// V of the samples: with N samples, N · V is the sum of (N · w − p1)², and the variance is V / (N · (N − 1)). It is the same for the values that they are kept for.
     pub fn variance_top(&self) -> i128
-        ensures { (ws : List ℕ) → StandsFor self.now ws → result ≡ variance_top (map pos ws) }
+        ensures samples { (ws : List ℕ) → StandsFor self.now ws → result ≡ variance_top (map pos ws) }
+        ensures values { (signed : Bool) (ws : List ℕ) → StandsFor self.now ws → result ≡ variance_top (map (unshifted signed) ws) }
     {
         let count = self.count as u128;
         let first = self.p1() as u128;
@@ -110,9 +163,10 @@ impl Power {
         over as i128 - under as i128
     }
 
-    /// U of the samples: with N samples, N · U is the sum of (N · w − p1)³, and the third central moment is U / N³.
+    /// U of the samples: with N samples, N · U is the sum of (N · w − p1)³, and the third central moment is U / N³. It is the same for the values that they are kept for.
     pub fn third_top(&self) -> i128
-        ensures { (ws : List ℕ) → StandsFor self.now ws → result ≡ third_top (map pos ws) }
+        ensures samples { (ws : List ℕ) → StandsFor self.now ws → result ≡ third_top (map pos ws) }
+        ensures values { (signed : Bool) (ws : List ℕ) → StandsFor self.now ws → result ≡ third_top (map (unshifted signed) ws) }
     {
         let count = self.count as u128;
         let first = self.p1() as u128;

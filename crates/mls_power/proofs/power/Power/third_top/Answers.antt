@@ -1,5 +1,7 @@
-use Rattle.std.proofs.Common.{◌∙◌, ◌+◌, ◌*◌, arith}
+use Rattle.std.proofs.Common.{List, sym, ℕ, ◌∙◌, ◌+◌, ◌*◌, arith}
 use Rattle.std.proofs.lemmas.Int.{ints}
+use Rattle.mls_power.specs.Standing.{StandsFor}
+use Rattle.mls_power.proofs.Translates.{third_shifted}
 use Rattle.mls_power.proofs.Bounds.{small_cube, cast_difference, third_from}
 use Rattle.mls_power.proofs.power.Power.third_top.Goals as goal
 
@@ -21,4 +23,5 @@ returns c =
     let p2 = c.p2.result in
     let p3 = c.p3.result in
     let small = small_cube n p1 p2 p3 (record { count = omega arith; first = omega arith; second = omega arith; third = omega arith }) in
-    λ ws stands. cast_difference (n * n * p3 + 2 * (p1 * p1 * p1)) (3 * (n * p1 * p2)) small.1 small.2 ∙ third_from n p1 p2 p3 ws stands.count (c.p1-first.ensures ∙ stands.first) (c.p2.ensures ∙ stands.second) (c.p3.ensures ∙ stands.third)
+    let over_samples = λ (ws : List ℕ) (stands : StandsFor p ws). cast_difference (n * n * p3 + 2 * (p1 * p1 * p1)) (3 * (n * p1 * p2)) small.1 small.2 ∙ third_from n p1 p2 p3 ws stands.count (c.p1-first.ensures ∙ stands.first) (c.p2.ensures ∙ stands.second) (c.p3.ensures ∙ stands.third) in
+    record { samples = over_samples; values = λ signed ws stands. over_samples ws stands ∙ sym (third_shifted signed ws) }

@@ -1,0 +1,4 @@
+use Rattle.mls_rank.proofs.rank_core.RankCore.reset.Goals as goal
+
+pub returns-clause-stands : goal.returns-clause-stands
+returns-clause-stands g c = ?

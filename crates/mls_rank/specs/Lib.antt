@@ -1,0 +1,3 @@
+pub mod Counting
+pub mod Cores
+pub mod Standing

@@ -1,0 +1,41 @@
+-- Which history a core stands for.
+use Rattle.std.specs.Prelude.{◌≡◌, ℕ, ◌<◌, Bool, true, false, List, [], ◌∷◌, ◌++◌, length, Option, Some, None, IfSome}
+use Rattle.mls_model.specs.declared.lanes.LaneKind.{LaneKind}
+use Rattle.mls_model.specs.declared.outcomes.Outcome.{Outcome}
+use Rattle.mls_model.specs.declared.outcomes.Outcome.TheVariants.{Foreign}
+use Rattle.mls_model.specs.Blocks.{block, width}
+use Rattle.mls_model.specs.Studies.{Sizes}
+use Rattle.mls_model.specs.Frames.{Frame, Piece}
+use Rattle.mls_model.specs.Histories.{Event}
+use Rattle.mls_model.specs.Survival.{surviving}
+use Rattle.mls_model.specs.Fitting.{fitting, frame_reason, frame_piece}
+use Rattle.mls_model.specs.Completion.{is_completed}
+use Rattle.mls_model.specs.Outcomes.{native_outcome, counts}
+use Rattle.mls_model.specs.AcceptedRows.{accepted}
+use Rattle.mls_model.specs.Standing.{Table, rank_table}
+use Rattle.mls_field.specs.declared.fold.RowFold.{Ghosts}
+use Rattle.mls_rank.specs.declared.rank_core.RankCore.{RankCore}
+use Rattle.mls_rank.specs.Cores.{sizes_of, rank_of, counts_of, has_mark, mark_count, fold_of}
+
+-- marks, counts of marks and what a fold stands for are those of these fitting pieces
+pub record KeepsRows (s : Sizes) (rank : ℕ) (marks : ℕ → ℕ → Bool) (groups : ℕ → ℕ) (stands : Table → Type 0) (pieces : List Piece) : Type 0 where
+  pub marked : (group plane : ℕ) → marks group plane ≡ is_completed s rank (record { group = group; plane = plane }) pieces
+  pub accepted : (plane : ℕ) → groups plane ≡ length (accepted s rank plane pieces)
+  pub rows : stands (rank_table s rank pieces)
+
+-- the core's are those
+abbrev pub Holds : {F : Type 0} {T : Ghosts F} → RankCore F T → List Piece → Type 0
+Holds {F} {T} core pieces = KeepsRows (sizes_of core) (rank_of core) (has_mark core) (mark_count core) (T.stands (fold_of core)) pieces
+
+-- The core is what a history leaves: its counts are those of the surviving events, and its marks and rows those of the fitting pieces among them.
+pub record StandsFor {F : Type 0} {T : Ghosts F} (core : RankCore F T) (history : List Event) : Type 0 where
+  pub counts : counts_of core ≡ counts (sizes_of core) (rank_of core) (surviving history)
+  pub holds : Holds core (fitting (sizes_of core) (rank_of core) (surviving history))
+
+-- the outcome of an event after these fitting pieces
+abbrev pub outcome_after : Sizes → ℕ → List Piece → LaneKind → Frame → Outcome
+outcome_after s rank pieces kind frame = elim (frame_reason s rank kind frame) [ Some r ↦ Foreign r | None ↦ native_outcome s rank pieces kind frame ]
+
+-- the event is a fitting piece with fewer cells than the rank's block
+abbrev pub IsPart : Sizes → ℕ → LaneKind → Frame → Type 0
+IsPart s rank kind frame = (p : Piece) × (frame_piece s rank kind frame ≡ Some p) × (p.count < width (block s rank))

@@ -1,0 +1,9 @@
+//! The core of one rank: what becomes of each event, and what the rank keeps of it.
+#![tactic(auto)]
+
+mod counting;
+pub mod rank_core;
+
+pub use mls_model::lanes::LaneKind;
+pub use mls_model::outcomes::{Counts, Outcome, Reason};
+pub use rank_core::RankCore;

@@ -1,0 +1,232 @@
+//! The state of one rank.
+
+ghost use Rattle.std.specs.Prelude.{◌≡◌, ◌≢◌, ◌<◌, ◌≤◌, ◌+◌, ◌-◌, ◌^◌, ◌==◌, ◌||◌, ◌&&◌, ℕ, List, [], ◌∷◌, ◌++◌, true, false, IfOk, OnOk, OnErr};
+ghost use Rattle.std.specs.Option.{option_to_list};
+ghost use Rattle.std.specs.List.{AllByRecursion};
+ghost use Rattle.mls_model.specs.Studies.{AreSizes, planes};
+ghost use Rattle.mls_model.specs.Frames.{Piece};
+ghost use Rattle.mls_model.specs.Histories.{Event};
+ghost use Rattle.mls_model.specs.Survival.{is_save, is_crash, surviving};
+ghost use Rattle.mls_model.specs.Fitting.{piece_reason, frame_piece};
+ghost use Rattle.mls_model.specs.Outcomes.{outcome, piece_outcome};
+ghost use Rattle.mls_laws.specs.Fitting.{Fits};
+ghost use Rattle.mls_laws.specs.OneMore.{counted, total};
+ghost use Rattle.mls_frame.specs.Views.{frame_of};
+ghost use Rattle.mls_ledger.specs.MarkSets.{marked};
+ghost use Rattle.mls_rank.specs.Counting.{no_counts, is_idle, is_saved, is_crashed};
+
+use crate::counting::{no_events, one_more};
+use mls_base::faults::NoMemory;
+use mls_base::rows::Rows;
+use mls_base::shape::Shape;
+use mls_field::fold::RowFold;
+use mls_frame::{FrameView, PieceView};
+use mls_ledger::Marks;
+use mls_model::lanes::LaneKind;
+use mls_model::outcomes::{Counts, Outcome, Reason};
+use std::alloc::Global;
+
+/// The state of one rank of a study with one client: the counts of its events, the marked keys and what a fold keeps of the accepted rows.
+///
+/// It stands for the history of the events that it was given, where it does. Its type keeps that the rows added to a plane are as many as the plane's marks.
+#[derive(Drop)]
+pub struct RankCore<F: RowFold> {
+    shape: Shape,
+    rank: u32,
+    counts: Counts,
+    marks: Marks,
+    fold: F,
+    ghost rank_in: { rank < shape.ranks },
+    ghost one_client: { shape.clients ≡ 1 },
+    ghost groups: { marks.groups ≡ shape.groups },
+    ghost planes: { marks.planes ≡ planes shape },
+    ghost fold_shape: { F.shape_of fold ≡ shape },
+    ghost fold_rank: { F.rank_of fold ≡ rank },
+    ghost rows: { (plane : ℕ) → F.row_count fold plane ≡ marked marks plane },
+}
+
+impl<F: RowFold> RankCore<F> {
+    ghost use Rattle.mls_rank.specs.Cores.{sizes_of, rank_of, counts_of, has_mark, mark_count, fold_of};
+    ghost use Rattle.mls_rank.specs.Standing.{Holds, StandsFor, outcome_after, IsPart};
+
+    /// The state before any event.
+    pub fn new(alloc: Global, shape: &Shape, rank: u32) -> Result<RankCore<F>, NoMemory>
+        requires rank_in { rank < shape.now.ranks }
+        requires one_client { shape.now.clients ≡ 1 }
+        ensures sizes { IfOk result (λ core. sizes_of core ≡ shape.now) }
+        ensures rank { IfOk result (λ core. rank_of core ≡ rank) }
+        ensures counts { IfOk result (λ core. counts_of core ≡ no_counts) }
+        ensures stands { IfOk result (λ core. StandsFor core []) }
+    {
+        let marks = Marks::new(alloc, shape)?;
+        let fold = F::new(alloc, shape, rank)?;
+        Ok(RankCore {
+            shape: *shape,
+            rank,
+            counts: no_events(),
+            marks,
+            fold,
+        })
+    }
+
+    /// The study's numbers.
+    pub fn shape(&self) -> Shape
+        ensures { result ≡ sizes_of self.now }
+    {
+        self.shape
+    }
+
+    /// The rank.
+    pub fn rank(&self) -> u32
+        ensures value { result ≡ rank_of self.now }
+        ensures within { result < (sizes_of self.now).ranks }
+    {
+        self.rank
+    }
+
+    /// The numbers of events with each outcome.
+    pub fn counts(&self) -> Counts
+        ensures { result ≡ counts_of self.now }
+    {
+        self.counts
+    }
+
+    /// The number of groups whose key of the plane is marked. A step here is the number of a plane.
+    pub fn accepted(&self, step: u32) -> u32
+        requires { step < planes (sizes_of self.now) }
+        ensures { result ≡ mark_count self.now step }
+    {
+        self.marks.count(step)
+    }
+
+    /// Whether a group's key of the plane is marked.
+    pub fn has(&self, group: u32, step: u32) -> bool
+        ensures { result ≡ has_mark self.now group step }
+    {
+        self.marks.has(group, step)
+    }
+
+    /// What is kept of the accepted rows.
+    pub fn folded(&self) -> &F
+        ensures value { result.now ≡ fold_of self.now }
+        ensures sizes { F.shape_of result.now ≡ sizes_of self.now }
+        ensures rank { F.rank_of result.now ≡ rank_of self.now }
+        ensures rows { (plane : ℕ) → F.row_count result.now plane ≡ mark_count self.now plane }
+    {
+        &self.fold
+    }
+
+    /// Why a piece on a client lane is foreign to the rank, if it is.
+    fn reason_of(&self, piece: &PieceView<'_>) -> Option<Reason>
+        ensures { result ≡ piece_reason (sizes_of self.now) (rank_of self.now) piece.now }
+    {
+        if piece.rows() != self.shape.parameters() + 2 {
+            return Some(Reason::Rows);
+        }
+        if piece.group() >= self.shape.groups() {
+            return Some(Reason::Group);
+        }
+        if piece.step() >= self.shape.planes() {
+            return Some(Reason::Step);
+        }
+        if piece.client() as u32 >= self.shape.clients() {
+            return Some(Reason::Client);
+        }
+        let overlap = self.shape.overlap(self.rank, piece.client() as u32);
+        let has_its_cells = overlap.first < overlap.end
+            && piece.first() == overlap.first
+            && piece.count() == overlap.end - overlap.first;
+        if has_its_cells {
+            None
+        } else {
+            Some(Reason::Cells)
+        }
+    }
+
+    /// Takes a piece that fits the rank: adds its rows and marks its key, unless the key is marked.
+    fn take_piece(&mut self, piece: &PieceView<'_>) -> Outcome
+        requires { piece_reason (sizes_of self.old) (rank_of self.old) piece.now ≡ None }
+        ensures outcome { (pieces : List Piece) → AllByRecursion (Fits (sizes_of self.old) (rank_of self.old)) pieces → Holds self.old pieces → result ≡ piece_outcome (sizes_of self.old) (rank_of self.old) pieces piece.now }
+        ensures holds { (pieces : List Piece) → AllByRecursion (Fits (sizes_of self.old) (rank_of self.old)) pieces → Holds self.old pieces → Holds self.new (pieces ++ piece.now ∷ []) }
+        ensures sizes { sizes_of self.new ≡ sizes_of self.old }
+        ensures rank { rank_of self.new ≡ rank_of self.old }
+        ensures counts { counts_of self.new ≡ counts_of self.old }
+        ensures saved { is_saved result ≡ false }
+        ensures crashed { is_crashed result ≡ false }
+        ensures idle { result ≢ Outcome.Accepted → self.new ≡ self.old }
+    {
+        self.shape.valid();
+        if self.marks.has(piece.group(), piece.step()) {
+            return Outcome::Replay;
+        }
+        self.marks.set(piece.group(), piece.step());
+        self.fold.add_block(piece.step(), piece);
+        Outcome::Accepted
+    }
+
+    /// Takes an event: what becomes of it, and the marks and rows with it. It counts nothing.
+    fn take(&mut self, kind: LaneKind, view: &FrameView<'_>) -> Outcome
+        ensures outcome { (pieces : List Piece) → AllByRecursion (Fits (sizes_of self.old) (rank_of self.old)) pieces → Holds self.old pieces → result ≡ outcome_after (sizes_of self.old) (rank_of self.old) pieces kind (frame_of view.now) }
+        ensures holds { (pieces : List Piece) → AllByRecursion (Fits (sizes_of self.old) (rank_of self.old)) pieces → Holds self.old pieces → Holds self.new (pieces ++ option_to_list (frame_piece (sizes_of self.old) (rank_of self.old) kind (frame_of view.now))) }
+        ensures sizes { sizes_of self.new ≡ sizes_of self.old }
+        ensures rank { rank_of self.new ≡ rank_of self.old }
+        ensures counts { counts_of self.new ≡ counts_of self.old }
+        ensures saved { is_saved result ≡ is_save (record { kind = kind; frame = frame_of view.now }) }
+        ensures crashed { is_crashed result ≡ is_crash (record { kind = kind; frame = frame_of view.now }) }
+        ensures idle { result ≢ Outcome.Accepted → self.new ≡ self.old }
+    {
+        match (kind, view) {
+            (LaneKind::Client, FrameView::Piece(piece)) => match self.reason_of(piece) {
+                Some(reason) => Outcome::Foreign(reason),
+                None => self.take_piece(piece),
+            },
+            (LaneKind::Client, FrameView::Save | FrameView::Crash) => {
+                Outcome::Foreign(Reason::LaneKind)
+            }
+            (LaneKind::Control, FrameView::Piece(_)) => Outcome::Foreign(Reason::LaneKind),
+            (LaneKind::Control, FrameView::Save) => Outcome::Save,
+            (LaneKind::Control, FrameView::Crash) => Outcome::Crash,
+            _ => Outcome::Quiet,
+        }
+    }
+
+    /// Takes an event of a lane of this kind and says what becomes of it. It takes no memory for a piece that covers the rank's block alone, nor for any other event. After want of memory the core is as before.
+    ///
+    /// A crash on a control lane changes nothing here: who keeps the saved states goes back to one.
+    pub fn step(&mut self, kind: LaneKind, view: &FrameView<'_>) -> Result<Outcome, NoMemory>
+        requires room { total (counts_of self.old) < 2 ^ 64 - 1 }
+
+        // What the core stands for.
+        ensures outcome { (history : List Event) → StandsFor self.old history → IfOk result (λ o. o ≡ outcome (sizes_of self.old) (rank_of self.old) (surviving history) (record { kind = kind; frame = frame_of view.now })) }
+        ensures stands { (history : List Event) → StandsFor self.old history → is_crash (record { kind = kind; frame = frame_of view.now }) ≡ false → OnOk result (StandsFor self.new (history ++ record { kind = kind; frame = frame_of view.now } ∷ [])) }
+
+        // What holds of every core.
+        ensures sizes { sizes_of self.new ≡ sizes_of self.old }
+        ensures rank { rank_of self.new ≡ rank_of self.old }
+        ensures counted { IfOk result (λ o. counts_of self.new ≡ counted (counts_of self.old) o) }
+        ensures sum { total (counts_of self.new) ≤ total (counts_of self.old) + 1 }
+        ensures saved { IfOk result (λ o. is_saved o ≡ is_save (record { kind = kind; frame = frame_of view.now })) }
+        ensures crashed { IfOk result (λ o. is_crashed o ≡ is_crash (record { kind = kind; frame = frame_of view.now })) }
+        ensures kept { IfOk result (λ o. o ≢ Outcome.Accepted → (fold_of self.new ≡ fold_of self.old) × ((group plane : ℕ) → has_mark self.new group plane ≡ has_mark self.old group plane)) }
+        ensures idle { IfOk result (λ o. is_idle o ≡ true → self.new ≡ self.old) }
+
+        ensures memory { OnErr result (IsPart (sizes_of self.old) (rank_of self.old) kind (frame_of view.now)) }
+        ensures err { OnErr result (self.new ≡ self.old) }
+    {
+        let outcome = self.take(kind, view);
+        self.counts = one_more(self.counts, outcome);
+        Ok(outcome)
+    }
+
+    /// Takes back the state before any event.
+    pub fn reset(&mut self)
+        ensures sizes { sizes_of self.new ≡ sizes_of self.old }
+        ensures rank { rank_of self.new ≡ rank_of self.old }
+        ensures counts { counts_of self.new ≡ no_counts }
+        ensures stands { StandsFor self.new [] }
+    {
+        self.marks.reset();
+        self.fold.reset();
+        self.counts = no_events();
+    }
+}
