@@ -1,4 +1,5 @@
 //! The result text: what a study's ranks hold, printed.
 #![tactic(auto)]
 
+pub mod cells;
 pub mod lines;

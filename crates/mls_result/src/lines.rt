@@ -11,7 +11,15 @@ use mls_base::faults::Failed;
 use mls_base::outside::Sink;
 use mls_model::lanes::{LaneEnd, LaneKind, LaneLine};
 use mls_model::outcomes::Counts;
+use mls_power::power::Powers;
 use mls_text::{put_bytes, put_pieces};
+
+/// The tops of the variance and of the third central moment of a cell's values.
+#[derive(Clone, Copy, Debug)]
+pub struct Moments {
+    pub variance: i128,
+    pub third: i128,
+}
 
 /// Writes the counts of a rank.
 #[tactic(auto, unfolding(mls_model::specs::ResultText::rank_line))]
@@ -91,8 +99,8 @@ fn put_line_end<O: Sink>(out: &mut O) -> Result<(), Failed>
 
 /// Writes power sums of values.
 #[tactic(auto, unfolding(crate::specs::Words::power_words))]
-pub fn put_powers<O: Sink>(out: &mut O, p1: i64, p2: u64, p3: i128, p4: i128) -> Result<(), Failed>
-    ensures { Writes result (power_words p1 (pos p2) p3 p4) (O.told out.old) (O.told out.new) (O.faults out.old) (O.faults out.new) }
+pub fn put_powers<O: Sink>(out: &mut O, powers: &Powers) -> Result<(), Failed>
+    ensures { Writes result (power_words powers.now.p1 (pos powers.now.p2) powers.now.p3 powers.now.p4) (O.told out.old) (O.told out.new) (O.faults out.old) (O.faults out.new) }
 {
     let mut first = Buffer::new();
     let mut second = Buffer::new();
@@ -102,13 +110,13 @@ pub fn put_powers<O: Sink>(out: &mut O, p1: i64, p2: u64, p3: i128, p4: i128) ->
         out,
         &[
             b"power ".as_slice(),
-            first.format(p1).as_bytes(),
+            first.format(powers.p1).as_bytes(),
             b" ".as_slice(),
-            second.format(p2).as_bytes(),
+            second.format(powers.p2).as_bytes(),
             b" ".as_slice(),
-            third.format(p3).as_bytes(),
+            third.format(powers.p3).as_bytes(),
             b" ".as_slice(),
-            fourth.format(p4).as_bytes(),
+            fourth.format(powers.p4).as_bytes(),
             b"\n".as_slice(),
         ],
     )
@@ -116,9 +124,9 @@ pub fn put_powers<O: Sink>(out: &mut O, p1: i64, p2: u64, p3: i128, p4: i128) ->
 
 /// Writes a variance over N values: its top over N · (N − 1).
 #[tactic(auto, unfolding(crate::specs::Words::variance_words))]
-pub fn put_variance<O: Sink>(out: &mut O, top: i128, n: u32) -> Result<(), Failed>
+pub fn put_variance<O: Sink>(out: &mut O, moments: &Moments, n: u32) -> Result<(), Failed>
     requires { 1 ≤ n }
-    ensures { Writes result (variance_words top n) (O.told out.old) (O.told out.new) (O.faults out.old) (O.faults out.new) }
+    ensures { Writes result (variance_words moments.now.variance n) (O.told out.old) (O.told out.new) (O.faults out.old) (O.faults out.new) }
 {
     let mut over = Buffer::new();
     let mut under = Buffer::new();
@@ -127,7 +135,7 @@ pub fn put_variance<O: Sink>(out: &mut O, top: i128, n: u32) -> Result<(), Faile
         out,
         &[
             b"variance ".as_slice(),
-            over.format(top).as_bytes(),
+            over.format(moments.variance).as_bytes(),
             b"/".as_slice(),
             under.format(n * (n - 1)).as_bytes(),
             b"\n".as_slice(),
@@ -137,9 +145,9 @@ pub fn put_variance<O: Sink>(out: &mut O, top: i128, n: u32) -> Result<(), Faile
 
 /// Writes a third central moment over N values: its top over N³.
 #[tactic(auto, unfolding(crate::specs::Words::third_words))]
-pub fn put_third<O: Sink>(out: &mut O, top: i128, n: u32) -> Result<(), Failed>
+pub fn put_third<O: Sink>(out: &mut O, moments: &Moments, n: u32) -> Result<(), Failed>
     requires { n ≤ 131070 }
-    ensures { Writes result (third_words top n) (O.told out.old) (O.told out.new) (O.faults out.old) (O.faults out.new) }
+    ensures { Writes result (third_words moments.now.third n) (O.told out.old) (O.told out.new) (O.faults out.old) (O.faults out.new) }
 {
     let mut over = Buffer::new();
     let mut under = Buffer::new();
@@ -148,7 +156,7 @@ pub fn put_third<O: Sink>(out: &mut O, top: i128, n: u32) -> Result<(), Failed>
         out,
         &[
             b"third ".as_slice(),
-            over.format(top).as_bytes(),
+            over.format(moments.third).as_bytes(),
             b"/".as_slice(),
             under.format(n * (n * n)).as_bytes(),
             b"\n".as_slice(),
