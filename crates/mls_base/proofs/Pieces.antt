@@ -1,5 +1,5 @@
 -- The text of pieces that are written in a row.
-use Rattle.std.proofs.Common.{◌≡◌, ℕ, ◌+◌, ◌<◌, List, [], ◌∷◌, ◌++◌, length, get_or, drop, map, Option, sym, ap, subst, Bor}
+use Rattle.std.proofs.Common.{◌≡◌, ℕ, ◌+◌, ◌<◌, List, ◌++◌, length, get_or, drop, map, Option, sym, ap, subst, Bor}
 use Rattle.std.proofs.lemmas.List.{drop_more}
 use Rattle.mls_model.specs.Numbers.{joined}
 use Rattle.mls_base.specs.Told.{WroteFront}

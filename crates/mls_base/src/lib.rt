@@ -1,10 +1,13 @@
 //! What every crate stands on: the shape of a study, blocks of samples, and the objects of the outside.
 #![tactic(auto)]
 
+pub mod ends;
 pub mod faults;
+pub mod memory;
 pub mod numbers;
 pub mod outside;
 pub mod put;
+pub mod row;
 pub mod rows;
 pub mod shape;
 

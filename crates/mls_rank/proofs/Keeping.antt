@@ -1,5 +1,5 @@
 -- What a rank keeps after one more fitting piece.
-use Rattle.std.proofs.Common.{◌≡◌, ℕ, ◌+◌, ◌*◌, Bool, true, false, not, ◌&&◌, ◌||◌, cond, List, [], ◌∷◌, ◌++◌, length, map, refl, ap, sym, ◌∙◌, ⊎_elim, subst, arith, length-append}
+use Rattle.std.proofs.Common.{◌≡◌, ℕ, ◌+◌, ◌*◌, ◌<◌, Bool, true, false, not, ◌&&◌, ◌||◌, cond, List, [], ◌∷◌, ◌++◌, length, map, refl, ap, sym, ◌∙◌, ⊎_elim, subst, arith, length-append}
 use Rattle.std.specs.Prelude.{◌==◌, nat_lt, slice_index}
 use Rattle.std.specs.List.{list_any, AllByRecursion}
 use Rattle.std.proofs.lemmas.List.{append-nil}
@@ -20,7 +20,7 @@ use Rattle.mls_model.specs.Standing.{Table, empty_table, with_block, rank_table}
 use Rattle.mls_field.specs.ShiftedRows.{shifted_row}
 use Rattle.mls_laws.specs.Fitting.{Fits}
 use Rattle.mls_laws.proofs.Completing.{same_key, accepted_more}
-use Rattle.mls_laws.proofs.OneClient.{IsBlock, completed_where_found, completes_where_new, completed_more, replay_or_accepted}
+use Rattle.mls_laws.proofs.OneClient.{IsBlock, is_block, whole, completed_where_found, completes_where_new, completed_more, replay_or_accepted}
 use Rattle.mls_laws.proofs.Table.{same_tables, table_accepted, table_replay}
 use Rattle.mls_rank.specs.Standing.{KeepsRows}
 
@@ -133,3 +133,31 @@ pub outcome_accepted : (s : Sizes) (rank : ℕ) (marks : ℕ → ℕ → Bool) (
     → marks p.group p.plane ≡ false → KeepsRows s rank marks groups stands pieces → Accepted ≡ piece_outcome s rank pieces p
 outcome_accepted s rank marks groups stands pieces p one all fit absent kept =
     sym (replay_or_accepted s rank pieces p one all fit ∙ ap (λ b. cond b Replay Accepted) (mark_is_found s rank marks groups stands pieces p one all kept ∙ absent))
+
+-- the same, from what the parts of a core say
+pub keeps_taken : (s fold_sizes : Sizes) (rank fold_rank : ℕ) (marks new_marks : ℕ → ℕ → Bool) (groups new_groups : ℕ → ℕ) (stands new_stands : Table → Type 0) (pieces : List Piece) (p : Piece) (group plane row_plane : ℕ)
+    → AreSizes s → s.clients ≡ 1 → rank < s.ranks → fold_sizes ≡ s → fold_rank ≡ rank → group ≡ p.group → plane ≡ p.plane → row_plane ≡ p.plane
+    → AllByRecursion (Fits s rank) pieces → Fits s rank p → marks p.group p.plane ≡ false
+    → ((g q : ℕ) → new_marks g q ≡ (marks g q || ((g == group) && (q == plane))))
+    → ((q : ℕ) → new_groups q ≡ cond (q == plane) (groups q + 1) (groups q))
+    → ((t : Table) → stands t → new_stands (with_block t row_plane (width (block fold_sizes fold_rank)) (shifted_row fold_sizes.signed p.rows (λ row place. slice_index p.samples (row * p.count + place)))))
+    → KeepsRows s rank marks groups stands pieces → KeepsRows s rank new_marks new_groups new_stands (pieces ++ p ∷ [])
+keeps_taken s fold_sizes rank fold_rank marks new_marks groups new_groups stands new_stands pieces p group plane row_plane sizes one within s_same r_same g_same p_same q_same all fit absent marked counted added kept =
+    keeps_accepted s rank marks new_marks groups new_groups stands new_stands pieces p one (is_block s rank sizes within) all fit absent
+      (λ g q. marked g q ∙ (ap (λ n. marks g q || ((g == n) && (q == plane))) g_same ∙ ap (λ n. marks g q || ((g == p.group) && (q == n))) p_same))
+      (λ q. counted q ∙ ap (λ n. cond (q == n) (groups q + 1) (groups q)) p_same)
+      (λ t h.
+        subst (λ (z : Sizes). new_stands (with_block t p.plane (width (block z rank)) (shifted_row z.signed p.rows (λ row place. slice_index p.samples (row * p.count + place))))) s_same
+          (subst (λ (r : ℕ). new_stands (with_block t p.plane (width (block fold_sizes r)) (shifted_row fold_sizes.signed p.rows (λ row place. slice_index p.samples (row * p.count + place))))) r_same
+            (subst (λ (q : ℕ). new_stands (with_block t q (width (block fold_sizes fold_rank)) (shifted_row fold_sizes.signed p.rows (λ row place. slice_index p.samples (row * p.count + place))))) q_same (added t h))))
+      kept
+
+-- what a test of the marks said
+pub mark_at : (marks : ℕ → ℕ → Bool) (has answer : Bool) (group plane g q : ℕ) → has ≡ marks group plane → group ≡ g → plane ≡ q → has ≡ answer → marks g q ≡ answer
+mark_at marks has answer group plane g q h g_same q_same is =
+    sym (ap (λ n. marks n plane) g_same ∙ ap (λ n. marks g n) q_same) ∙ (sym h ∙ is)
+
+-- a fitting piece has as many cells as the block that the fold keeps
+pub cells_of_fold : (s fold_sizes : Sizes) (rank fold_rank : ℕ) (p : Piece) → AreSizes s → s.clients ≡ 1 → rank < s.ranks → fold_sizes ≡ s → fold_rank ≡ rank → Fits s rank p → p.count ≡ width (block fold_sizes fold_rank)
+cells_of_fold s fold_sizes rank fold_rank p sizes one within s_same r_same fit =
+    (whole s rank p one (is_block s rank sizes within) fit).count ∙ sym (ap (λ r. width (block fold_sizes r)) r_same ∙ ap (λ z. width (block z rank)) s_same)

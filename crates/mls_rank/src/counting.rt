@@ -2,7 +2,7 @@
 
 ghost use Rattle.std.specs.Prelude.{◌≡◌, ◌<◌, ◌-◌, ◌^◌};
 ghost use Rattle.mls_laws.specs.OneMore.{counted, total};
-ghost use Rattle.mls_rank.specs.Counting.{no_counts};
+ghost use Rattle.mls_rank.specs.Counting.{no_counts, is_idle};
 
 use mls_model::outcomes::{Counts, Outcome, Reason};
 
@@ -22,6 +22,16 @@ pub(crate) fn no_events() -> Counts
         f4: 0,
         f5: 0,
         f6: 0,
+    }
+}
+
+/// Whether an outcome is counted by no count.
+pub(crate) fn is_not_counted(outcome: Outcome) -> bool
+    ensures { result ≡ is_idle outcome }
+{
+    match outcome {
+        Outcome::Quiet | Outcome::Save | Outcome::Crash => true,
+        _ => false,
     }
 }
 

@@ -10,12 +10,13 @@ ghost use Rattle.mls_model.specs.Survival.{is_save, is_crash, surviving};
 ghost use Rattle.mls_model.specs.Fitting.{piece_reason, frame_piece};
 ghost use Rattle.mls_model.specs.Outcomes.{outcome, piece_outcome};
 ghost use Rattle.mls_laws.specs.Fitting.{Fits};
+ghost use Rattle.mls_laws.specs.LastSave.{before_last_save};
 ghost use Rattle.mls_laws.specs.OneMore.{counted, total};
 ghost use Rattle.mls_frame.specs.Views.{frame_of};
 ghost use Rattle.mls_ledger.specs.MarkSets.{marked};
 ghost use Rattle.mls_rank.specs.Counting.{no_counts, is_idle, is_saved, is_crashed};
 
-use crate::counting::{no_events, one_more};
+use crate::counting::{is_not_counted, no_events, one_more};
 use mls_base::faults::NoMemory;
 use mls_base::rows::Rows;
 use mls_base::shape::Shape;
@@ -190,6 +191,22 @@ impl<F: RowFold> RankCore<F> {
         }
     }
 
+    /// Counts an outcome.
+    fn count(&mut self, outcome: Outcome)
+        requires { total (counts_of self.old) < 2 ^ 64 - 1 }
+        ensures counts { counts_of self.new ≡ counted (counts_of self.old) outcome }
+        ensures shape { self.new.shape ≡ self.old.shape }
+        ensures rank { self.new.rank ≡ self.old.rank }
+        ensures marks { self.new.marks ≡ self.old.marks }
+        ensures fold { self.new.fold ≡ self.old.fold }
+        ensures idle { is_idle outcome ≡ true → self.new ≡ self.old }
+    {
+        if is_not_counted(outcome) {
+            return;
+        }
+        self.counts = one_more(self.counts, outcome);
+    }
+
     /// Takes an event of a lane of this kind and says what becomes of it. It takes no memory for a piece that covers the rank's block alone, nor for any other event. After want of memory the core is as before.
     ///
     /// A crash on a control lane changes nothing here: who keeps the saved states goes back to one.
@@ -214,8 +231,15 @@ impl<F: RowFold> RankCore<F> {
         ensures err { OnErr result (self.new ≡ self.old) }
     {
         let outcome = self.take(kind, view);
-        self.counts = one_more(self.counts, outcome);
+        self.count(outcome);
         Ok(outcome)
+    }
+
+    /// After a crash the core of the last save stands for the whole history, and where there was no save the core before any event does.
+    pub fn after_crash(&self)
+        ensures { (history : List Event) (e : Event) → is_crash e ≡ true → StandsFor self.now (before_last_save history) → StandsFor self.now (history ++ e ∷ []) }
+    {
+        self.shape.valid();
     }
 
     /// Takes back the state before any event.
