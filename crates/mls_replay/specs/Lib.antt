@@ -1,1 +1,3 @@
 pub mod Calm
+pub mod Folding
+pub mod Taken

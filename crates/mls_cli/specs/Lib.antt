@@ -1,0 +1,3 @@
+pub mod Words
+pub mod Ideal
+pub mod Answers
