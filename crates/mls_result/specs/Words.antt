@@ -3,11 +3,31 @@ use Rattle.std.specs.Prelude.{ℕ, ◌-◌, ◌*◌, List, [], ◌∷◌, ℤ, c
 use Rattle.std.specs.Fmt.{signed_decimal}
 use Rattle.mls_model.specs.declared.lanes.LaneLine.{LaneLine}
 use Rattle.mls_model.specs.Numbers.{joined}
-use Rattle.mls_model.specs.ResultText.{kind_word}
+use Rattle.mls_model.specs.Studies.{Sizes}
+use Rattle.mls_model.specs.ResultText.{title, kind_word}
 
 -- the end of a line
 unfoldable pub line_end : List ℕ
 line_end = codes "\n"
+
+-- melissa-result 1, and the line's end
+unfoldable pub title_words : List ℕ
+title_words = title
+
+-- study cells C steps T groups G parameters P ranks R clients K
+unfoldable pub study_numbers : ℕ → ℕ → ℕ → ℕ → ℕ → ℕ → List ℕ
+study_numbers cells steps groups parameters ranks clients = joined (codes "study cells " ∷ decimal cells ∷ codes " steps " ∷ decimal steps ∷ codes " groups " ∷ decimal groups ∷ codes " parameters " ∷ decimal parameters ∷ codes " ranks " ∷ decimal ranks ∷ codes " clients " ∷ decimal clients ∷ [])
+
+abbrev pub study_start : Sizes → List ℕ
+study_start s = study_numbers s.cells s.steps s.groups s.parameters s.ranks s.clients
+
+-- step t
+unfoldable pub step_start : ℕ → List ℕ
+step_start step = joined (codes "step " ∷ decimal step ∷ [])
+
+-- cell x groups n, and the line's end
+unfoldable pub cell_words : ℕ → ℕ → List ℕ
+cell_words x n = joined (codes " cell " ∷ decimal x ∷ codes " groups " ∷ decimal n ∷ codes "\n" ∷ [])
 
 -- lane k rank r KIND events e
 unfoldable pub lane_start : LaneLine → List ℕ

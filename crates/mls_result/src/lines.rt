@@ -4,11 +4,12 @@ ghost use Rattle.std.specs.Prelude.{◌≡◌, ℕ, ◌+◌, ◌*◌, ◌<◌, �
 ghost use Rattle.mls_model.specs.Numbers.{joined};
 ghost use Rattle.mls_model.specs.ResultText.{rank_line, lane_line, lane_lines, kind_word, end_words};
 ghost use Rattle.mls_text.specs.Writing.{Writes};
-ghost use Rattle.mls_result.specs.Words.{line_end, lane_start, power_words, variance_words, third_words};
+ghost use Rattle.mls_result.specs.Words.{line_end, title_words, study_start, study_numbers, step_start, cell_words, lane_start, power_words, variance_words, third_words};
 
 use itoa::Buffer;
 use mls_base::faults::Failed;
 use mls_base::outside::Sink;
+use mls_base::shape::Shape;
 use mls_model::lanes::{LaneEnd, LaneKind, LaneLine};
 use mls_model::outcomes::Counts;
 use mls_power::power::Powers;
@@ -91,7 +92,7 @@ fn put_place<O: Sink>(out: &mut O, words: &[u8], at: u64) -> Result<(), Failed>
 
 /// Ends a line.
 #[tactic(auto, unfolding(crate::specs::Words::line_end))]
-fn put_line_end<O: Sink>(out: &mut O) -> Result<(), Failed>
+pub(crate) fn put_line_end<O: Sink>(out: &mut O) -> Result<(), Failed>
     ensures { Writes result line_end (O.told out.old) (O.told out.new) (O.faults out.old) (O.faults out.new) }
 {
     put_bytes(out, b"\n")
@@ -220,4 +221,93 @@ pub fn put_lanes<O: Sink>(out: &mut O, lines: &[LaneLine]) -> Result<(), Failed>
         put_lane(out, line)?;
     }
     Ok(())
+}
+
+/// Writes the first line.
+#[tactic(auto, unfolding(crate::specs::Words::title_words))]
+pub fn put_title<O: Sink>(out: &mut O) -> Result<(), Failed>
+    ensures { Writes result title_words (O.told out.old) (O.told out.new) (O.faults out.old) (O.faults out.new) }
+{
+    put_bytes(out, b"melissa-result 1\n")
+}
+
+/// Begins the study line, from its numbers.
+#[tactic(auto, unfolding(crate::specs::Words::study_numbers))]
+fn put_study_numbers<O: Sink>(
+    out: &mut O,
+    cells: u32,
+    steps: u32,
+    groups: u32,
+    parameters: u32,
+    ranks: u32,
+    clients: u32,
+) -> Result<(), Failed>
+    ensures { Writes result (study_numbers cells steps groups parameters ranks clients) (O.told out.old) (O.told out.new) (O.faults out.old) (O.faults out.new) }
+{
+    let mut first = Buffer::new();
+    let mut second = Buffer::new();
+    let mut third = Buffer::new();
+    let mut fourth = Buffer::new();
+    let mut fifth = Buffer::new();
+    let mut sixth = Buffer::new();
+    put_pieces(
+        out,
+        &[
+            b"study cells ".as_slice(),
+            first.format(cells).as_bytes(),
+            b" steps ".as_slice(),
+            second.format(steps).as_bytes(),
+            b" groups ".as_slice(),
+            third.format(groups).as_bytes(),
+            b" parameters ".as_slice(),
+            fourth.format(parameters).as_bytes(),
+            b" ranks ".as_slice(),
+            fifth.format(ranks).as_bytes(),
+            b" clients ".as_slice(),
+            sixth.format(clients).as_bytes(),
+        ],
+    )
+}
+
+/// Begins the study line.
+pub fn put_study_start<O: Sink>(out: &mut O, shape: &Shape) -> Result<(), Failed>
+    ensures { Writes result (study_start shape.now) (O.told out.old) (O.told out.new) (O.faults out.old) (O.faults out.new) }
+{
+    put_study_numbers(
+        out,
+        shape.cells(),
+        shape.steps(),
+        shape.groups(),
+        shape.parameters(),
+        shape.ranks(),
+        shape.clients(),
+    )
+}
+
+/// Begins a step line.
+#[tactic(auto, unfolding(crate::specs::Words::step_start))]
+pub fn put_step_start<O: Sink>(out: &mut O, step: u32) -> Result<(), Failed>
+    ensures { Writes result (step_start step) (O.told out.old) (O.told out.new) (O.faults out.old) (O.faults out.new) }
+{
+    let mut number = Buffer::new();
+    put_pieces(out, &[b"step ".as_slice(), number.format(step).as_bytes()])
+}
+
+/// Ends a step line.
+#[tactic(auto, unfolding(crate::specs::Words::cell_words))]
+pub fn put_cell_words<O: Sink>(out: &mut O, cell: u32, groups: u32) -> Result<(), Failed>
+    ensures { Writes result (cell_words cell groups) (O.told out.old) (O.told out.new) (O.faults out.old) (O.faults out.new) }
+{
+    let mut number = Buffer::new();
+    let mut rows = Buffer::new();
+    put_pieces(
+        out,
+        &[
+            b" cell ".as_slice(),
+            number.format(cell).as_bytes(),
+            b" groups ".as_slice(),
+            rows.format(groups).as_bytes(),
+            b"\n".as_slice(),
+        ],
+    )
 }
