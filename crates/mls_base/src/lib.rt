@@ -3,6 +3,7 @@
 
 pub mod ends;
 pub mod faults;
+pub mod laws;
 pub mod memory;
 pub mod numbers;
 pub mod outside;
@@ -10,5 +11,7 @@ pub mod put;
 pub mod row;
 pub mod rows;
 pub mod shape;
+#[cfg(test)]
+mod tests;
 
 pub use mls_model::blocks::Span;

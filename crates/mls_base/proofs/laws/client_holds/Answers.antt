@@ -1,0 +1,5 @@
+use Rattle.mls_base.proofs.Sharing.{share_found}
+use Rattle.mls_base.proofs.laws.client_holds.Goals as goal
+
+pub returns : goal.returns
+returns c s sizes x client = share_found s.cells s.clients x client sizes.some_clients
