@@ -1,3 +1,4 @@
+pub mod Named
 pub mod Powers
 pub mod RankLines
 pub mod Splits

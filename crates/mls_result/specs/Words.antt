@@ -44,3 +44,7 @@ variance_words top n = joined (codes "variance " ∷ signed_decimal top ∷ code
 -- third U/E
 unfoldable pub third_words : ℤ → ℕ → List ℕ
 third_words top n = joined (codes "third " ∷ signed_decimal top ∷ codes "/" ∷ decimal (n * (n * n)) ∷ codes "\n" ∷ [])
+
+-- the number of fields
+unfoldable pub fields_said : ℕ → List ℕ
+fields_said fields = joined (codes " fields " ∷ decimal fields ∷ [])

@@ -2,5 +2,6 @@
 #![tactic(auto)]
 
 pub mod cells;
+pub mod head;
 pub mod lines;
 pub mod ranks;
