@@ -137,9 +137,10 @@ impl MemFiles {
 }
 
 impl Files for MemFiles {
-    ghost use Rattle.std.specs.Prelude.{Some};
+    ghost use Rattle.std.specs.Prelude.{◌≡◌, Some, OnOk, OnErr, IfErr, MatchResult};
     ghost use Rattle.std.specs.Option.{option_map};
     ghost use Rattle.std.specs.BTreeMap.{get_by_text};
+    ghost use Rattle.mls_base.specs.Told.{Saved, SaveLeaves, StoreCounts};
 
     ghost load_faults = { λ f. f.load_faults };
 
@@ -166,7 +167,13 @@ impl Files for MemFiles {
     }
 
     /// A save that fails leaves its own name as before too.
-    fn save(&mut self, _alloc: Global, name: &str, bytes: &[u8]) -> Result<(), StoreFault> {
+    fn save(&mut self, _alloc: Global, name: &str, bytes: &[u8]) -> Result<(), StoreFault>
+        ensures saved { OnOk result (Saved name.now bytes.now (⟦<MemFiles as Files>⟧.held self.old) (⟦<MemFiles as Files>⟧.held self.new)) }
+        ensures held { IfErr result (λ fault. SaveLeaves fault name.now (⟦<MemFiles as Files>⟧.held self.old) (⟦<MemFiles as Files>⟧.held self.new)) }
+        ensures kept { OnErr result (⟦<MemFiles as Files>⟧.held self.new ≡ ⟦<MemFiles as Files>⟧.held self.old) }
+        ensures loads { ⟦<MemFiles as Files>⟧.load_faults self.new ≡ ⟦<MemFiles as Files>⟧.load_faults self.old }
+        ensures saves { MatchResult result (λ _. ⟦<MemFiles as Files>⟧.save_faults self.new ≡ ⟦<MemFiles as Files>⟧.save_faults self.old) (λ fault. StoreCounts fault (⟦<MemFiles as Files>⟧.save_faults self.old) (⟦<MemFiles as Files>⟧.save_faults self.new)) }
+    {
         if self.calls.is_next_to_fail() {
             self.save_faults = self.save_faults.saturating_add(1);
             return Err(StoreFault::Failed);

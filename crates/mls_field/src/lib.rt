@@ -4,3 +4,5 @@
 mod cells;
 pub mod field;
 pub mod fold;
+#[cfg(test)]
+mod tests;

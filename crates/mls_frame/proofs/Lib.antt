@@ -4,3 +4,4 @@ pub mod Again
 pub mod Steady
 pub mod Takes
 pub mod Theorems
+pub mod Within

@@ -1,5 +1,5 @@
 -- The frame that a view is of, and the sight that an answer of view is.
-use Rattle.std.specs.Prelude.{ℕ, List, ◌<◌, slice_index}
+use Rattle.std.specs.Prelude.{ℕ, List, ◌<◌, ◌≤◌, slice_index}
 use Rattle.mls_model.specs.Frames.{Frame, piece, beat, bye, save, crash, hello, welcome, refuse, Sight, whole, more, bad}
 use Rattle.mls_frame.specs.declared.seeing.FrameView.{FrameView}
 use Rattle.mls_frame.specs.declared.seeing.FrameView.TheVariants as views
@@ -26,3 +26,9 @@ sight_of (seen.Bad fault) = bad fault
 -- each is a byte
 abbrev pub AreBytes : List ℕ → Type 0
 AreBytes bytes = (i : ℕ) → slice_index bytes i < 256
+
+-- a whole frame that was seen in so many bytes has at least five of them, and no more than there are
+abbrev pub IsWithin : ℕ → Seen → Type 0
+IsWithin size (seen.Whole frame used) = (5 ≤ used) × (used ≤ size)
+IsWithin size seen.More = Unit {0}
+IsWithin size (seen.Bad fault) = Unit {0}

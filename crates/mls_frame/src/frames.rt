@@ -1,6 +1,7 @@
 //! Frames that own their samples.
 
 ghost use Rattle.std.specs.Prelude.{◌≡◌, ℕ, ◌+◌, ◌*◌, ◌<◌, ◌≤◌, ◌^◌, List, [], ◌∷◌, ◌++◌, length, OnOk, OnErr};
+ghost use Rattle.std.specs.List.{AllByRecursion};
 
 use mls_base::faults::NoMemory;
 use std::alloc::Global;
@@ -111,4 +112,13 @@ pub enum Frame {
         reason: u8,
         value: u32,
     },
+}
+
+impl Samples {
+    /// Each sample has 16 bits.
+    pub fn valid(&self)
+        ensures { AllByRecursion (λ x. x < 2 ^ 16) self.now }
+    {
+        let _ = &self.items;
+    }
 }

@@ -41,3 +41,8 @@ pub fn longer_changes_nothing()
     ensures bad { (bytes extra : List ℕ) (fault : FrameFault) → sight bytes ≡ bad fault →
         sight (bytes ++ extra) ≡ bad fault }
 {}
+
+/// A frame's spelling has at least five bytes.
+pub fn spellings_have_a_head()
+    ensures { (frame : Frame) → 5 ≤ length (spelling frame) }
+{}

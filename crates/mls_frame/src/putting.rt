@@ -2,7 +2,7 @@
 
 ghost use Rattle.std.specs.Prelude.{◌≡◌, ℕ, ◌+◌, ◌*◌, ◌<◌, ◌≤◌, ◌^◌, [], ◌∷◌, ◌++◌, length, OnOk, OnErr, vec_len, vec_capacity};
 ghost use Rattle.std.specs.List.{flat_map};
-ghost use Rattle.mls_model.specs.Frames.{u16, u32, body, spelling, piece_head, IsFrame};
+ghost use Rattle.mls_model.specs.Frames.{u16, u32, body, spelling, piece_head, IsFrame, IsPiece};
 ghost use Rattle.mls_frame.specs.Owned.{owned_frame, owned_piece};
 
 use crate::frames::{Frame, Piece};
@@ -140,4 +140,50 @@ pub fn put(frame: &Frame, out: &mut Vec<u8>) -> Result<(), NoMemory>
     add(out, &size.to_be_bytes());
     add_body(out, frame);
     Ok(())
+}
+
+impl Piece {
+    /// The piece fits its fields and the longest body.
+    pub fn valid(&self)
+        ensures { IsPiece (owned_piece self.now) }
+    {
+        self.samples.valid();
+        let _life = self.life;
+        let _group = self.group;
+        let _step = self.step;
+        let _client = self.client;
+        let _rows = self.rows;
+        let _first = self.first;
+        let _count = self.count;
+    }
+}
+
+impl Frame {
+    /// The frame's numbers fit their fields, so it has a spelling.
+    pub fn valid(&self)
+        ensures { IsFrame (owned_frame self.now) }
+    {
+        match self {
+            Frame::Piece(piece) => piece.valid(),
+            Frame::Beat { group, life } | Frame::Bye { group, life } => {
+                let _ = (*group, *life);
+            }
+            Frame::Save | Frame::Crash => {}
+            Frame::Hello {
+                version,
+                group,
+                life,
+                client,
+                rank,
+            } => {
+                let _ = (*version, *group, *life, *client, *rank);
+            }
+            Frame::Welcome { lane } => {
+                let _lane = *lane;
+            }
+            Frame::Refuse { reason, value } => {
+                let _ = (*reason, *value);
+            }
+        }
+    }
 }

@@ -3,7 +3,7 @@
 ghost use Rattle.std.specs.Prelude.{◌≡◌, ℕ, ◌+◌, ◌*◌, ◌<◌, ◌≤◌, ◌||◌, length, nat_lt};
 ghost use Rattle.std.specs.Int.{w16, w32};
 ghost use Rattle.mls_model.specs.Frames.{longest_body, number, is_no_length, hello as hello_frame, fixed_length, fixed_frame, fixed_sight, piece_sight, sized_sight, sight};
-ghost use Rattle.mls_frame.specs.Views.{frame_of, sight_of};
+ghost use Rattle.mls_frame.specs.Views.{frame_of, sight_of, IsWithin};
 
 use crate::numbers::{number_16, number_32};
 use crate::piece_view::PieceView;
@@ -186,14 +186,22 @@ fn sized_view(size: u32, rest: &[u8]) -> Seen<'_>
     }
 }
 
-/// What the front of the bytes is, by the lengths that frames have. No memory is taken, and a piece's samples
-/// are lent from the bytes. A longer input never changes `Whole` or `Bad`.
 #[tactic(auto, unfolding(mls_model::specs::Frames::sight))]
-pub fn view(bytes: &[u8]) -> Seen<'_>
+fn seen_at(bytes: &[u8]) -> Seen<'_>
     ensures { sight_of result ≡ sight bytes.now }
 {
     if bytes.len() < 4 {
         return Seen::More;
     }
     sized_view(number_32(bytes, 0), &bytes[4..])
+}
+
+/// What the front of the bytes is, by the lengths that frames have. No memory is taken, and a piece's samples
+/// are lent from the bytes. A longer input never changes `Whole` or `Bad`.
+pub fn view(bytes: &[u8]) -> Seen<'_>
+    ensures exact { sight_of result ≡ sight bytes.now }
+    // A whole frame has at least five bytes, and they are there.
+    ensures within { IsWithin (length bytes.now) result }
+{
+    seen_at(bytes)
 }

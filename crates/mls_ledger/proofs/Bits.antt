@@ -1,11 +1,9 @@
 -- One bit more in a set of keys.
-use Rattle.std.proofs.Common.{◌≡◌, ℕ, zero, suc, ◌+◌, ◌-◌, ◌*◌, ◌/◌, ◌%◌, ◌^◌, ◌<◌, ◌≤◌, ◌≢◌, Bool, true, false, not, ◌&&◌, ◌||◌, cond, List, [], ◌∷◌, ◌++◌, length, get_or, set, replicate, refl, ap, sym, ◌∙◌, ⊎_elim, subst, arith, get_or-set_same, get_or-set_other, length-append}
+use Rattle.std.proofs.Common.{◌≡◌, ℕ, zero, suc, ◌+◌, ◌*◌, ◌/◌, ◌%◌, ◌^◌, ◌<◌, ◌≤◌, ◌≢◌, Bool, true, false, ◌&&◌, ◌||◌, cond, List, [], ◌∷◌, length, get_or, set, replicate, refl, ap, sym, ◌∙◌, ⊎_elim, subst, arith, get_or-set_same, get_or-set_other, length-append}
 use Rattle.std.specs.Prelude.{◌==◌, nat_lt, count_by, slice_index}
 use Rattle.std.specs.Int.{bit_at, w8}
 use Rattle.std.specs.Int.RustNames.{bit_or}
-use mir.Val.{bits}
 use Rattle.std.proofs.lemmas.Bool.{cases_Bool, cases_eq, cases_lt, eq-eqb, ne_eqb, eqb-true, lt-ltb, le-ltb, ltb-true, ltb-false, and_left, and_right, or_right, and_from, and_parts, both_ways}
-use Rattle.std.proofs.lemmas.Bool.Decides.{nat_tests}
 use Rattle.std.proofs.lemmas.List.{get_or-replicate, get_or_past}
 use Rattle.std.proofs.lemmas.List.Sums.{sum_by-append, count_by-le-length}
 use Rattle.std.proofs.lemmas.Nat.{div-mul-add}
@@ -40,31 +38,31 @@ count_one_more p q g absent more (suc n) =
     let q_last = count_last q n in
     let p_last = count_last p n in
     ⊎_elim
-      (λ (same : n ≡ g).
-        let here : q n ≡ true = more n ∙ or_right (p n) (n == g) (eq-eqb n g same) in
-        let before : p n ≡ false = ap p same ∙ absent in
-        let q_here : count_by q (below (suc n)) ≡ count_by q (below n) + 1 = q_last ∙ ap (λ b. count_by q (below n) + cond b 1 0) here in
-        let p_here : count_by p (below (suc n)) ≡ count_by p (below n) + 0 = p_last ∙ ap (λ b. count_by p (below n) + cond b 1 0) before in
-        let old : count_by q (below n) ≡ count_by p (below n) = so_far ∙ ap (λ b. cond b (count_by p (below n) + 1) (count_by p (below n))) (le-ltb g n (omega arith)) in
-        let sum : count_by q (below (suc n)) ≡ count_by p (below (suc n)) + 1 = omega arith in
-        sum ∙ sym (ap (λ b. cond b (count_by p (below (suc n)) + 1) (count_by p (below (suc n)))) (lt-ltb g (suc n) (omega arith))))
-      (λ (other : n ≡ g → ⊥).
-        let same : q n ≡ p n = more n ∙ (ap (λ b. p n || b) (ne_eqb n g other) ∙ or_false (p n)) in
-        let q_here : count_by q (below (suc n)) ≡ count_by q (below n) + cond (p n) 1 0 = q_last ∙ ap (λ b. count_by q (below n) + cond b 1 0) same in
-        ⊎_elim
-          (λ (t : nat_lt g n ≡ true).
-            let old : count_by q (below n) ≡ count_by p (below n) + 1 = so_far ∙ ap (λ b. cond b (count_by p (below n) + 1) (count_by p (below n))) t in
-            let sum : count_by q (below (suc n)) ≡ count_by p (below (suc n)) + 1 = omega arith in
-            let less : g < n = ltb-true g n t in
-            sum ∙ sym (ap (λ b. cond b (count_by p (below (suc n)) + 1) (count_by p (below (suc n)))) (lt-ltb g (suc n) (omega arith))))
-          (λ (f : nat_lt g n ≡ false).
-            let old : count_by q (below n) ≡ count_by p (below n) = so_far ∙ ap (λ b. cond b (count_by p (below n) + 1) (count_by p (below n))) f in
-            let sum : count_by q (below (suc n)) ≡ count_by p (below (suc n)) = omega arith in
-            let least : n ≤ g = ltb-false g n f in
-            let more_than : suc n ≤ g = omega arith in
-            sum ∙ sym (ap (λ b. cond b (count_by p (below (suc n)) + 1) (count_by p (below (suc n)))) (le-ltb g (suc n) more_than)))
-          (cases_Bool (nat_lt g n)))
-      (cases_eq n g)
+    (λ (same : n ≡ g).
+    let here : q n ≡ true = more n ∙ or_right (p n) (n == g) (eq-eqb n g same) in
+    let before : p n ≡ false = ap p same ∙ absent in
+    let q_here : count_by q (below (suc n)) ≡ count_by q (below n) + 1 = q_last ∙ ap (λ b. count_by q (below n) + cond b 1 0) here in
+    let p_here : count_by p (below (suc n)) ≡ count_by p (below n) + 0 = p_last ∙ ap (λ b. count_by p (below n) + cond b 1 0) before in
+    let old : count_by q (below n) ≡ count_by p (below n) = so_far ∙ ap (λ b. cond b (count_by p (below n) + 1) (count_by p (below n))) (le-ltb g n (omega arith)) in
+    let sum : count_by q (below (suc n)) ≡ count_by p (below (suc n)) + 1 = omega arith in
+    sum ∙ sym (ap (λ b. cond b (count_by p (below (suc n)) + 1) (count_by p (below (suc n)))) (lt-ltb g (suc n) (omega arith))))
+    (λ (other : n ≡ g → ⊥).
+    let same : q n ≡ p n = more n ∙ (ap (λ b. p n || b) (ne_eqb n g other) ∙ or_false (p n)) in
+    let q_here : count_by q (below (suc n)) ≡ count_by q (below n) + cond (p n) 1 0 = q_last ∙ ap (λ b. count_by q (below n) + cond b 1 0) same in
+    ⊎_elim
+    (λ (t : nat_lt g n ≡ true).
+    let old : count_by q (below n) ≡ count_by p (below n) + 1 = so_far ∙ ap (λ b. cond b (count_by p (below n) + 1) (count_by p (below n))) t in
+    let sum : count_by q (below (suc n)) ≡ count_by p (below (suc n)) + 1 = omega arith in
+    let less : g < n = ltb-true g n t in
+    sum ∙ sym (ap (λ b. cond b (count_by p (below (suc n)) + 1) (count_by p (below (suc n)))) (lt-ltb g (suc n) (omega arith))))
+    (λ (f : nat_lt g n ≡ false).
+    let old : count_by q (below n) ≡ count_by p (below n) = so_far ∙ ap (λ b. cond b (count_by p (below n) + 1) (count_by p (below n))) f in
+    let sum : count_by q (below (suc n)) ≡ count_by p (below (suc n)) = omega arith in
+    let least : n ≤ g = ltb-false g n f in
+    let more_than : suc n ≤ g = omega arith in
+    sum ∙ sym (ap (λ b. cond b (count_by p (below (suc n)) + 1) (count_by p (below (suc n)))) (le-ltb g (suc n) more_than)))
+    (cases_Bool (nat_lt g n)))
+    (cases_eq n g)
 
 pub count_same : (p q : ℕ → Bool) → ((k : ℕ) → q k ≡ p k) → (xs : List ℕ) → count_by q xs ≡ count_by p xs
 count_same p q same xs = let both : q ≡ p = λ i k. same k i in ap (λ (r : ℕ → Bool). count_by r xs) both
@@ -92,8 +90,8 @@ with_mark m group plane = record m { bytes = set m.bytes (plane * row_len m.grou
 new_bit : (bytes : List ℕ) (i j k b : ℕ) → i < length bytes → b < 8 → k < 8 → (j ≡ i → k ≡ b → ⊥) → bit_at (get_or (set bytes i (bit_or (get_or bytes i 0) (1 * 2 ^ b % 2 ^ 8))) j 0) k ≡ bit_at (get_or bytes j 0) k
 new_bit bytes i j k b within b_in k_in apart = ⊎_elim
     (λ (same : j ≡ i).
-      let other : k ≢ b = apart same in
-      rw (same, get_or-set_same) (bit_at_set_other w8 (get_or bytes i 0) b b_in k other))
+    let other : k ≢ b = apart same in
+    rw (same, get_or-set_same) (bit_at_set_other w8 (get_or bytes i 0) b b_in k other))
     (λ (other : j ≡ i → ⊥). let ne : j ≢ i = other in rw get_or-set_other refl)
     (cases_eq j i)
 
@@ -114,34 +112,34 @@ mark_inside m group plane group_in plane_in size g p g_in p_in =
     let new = marked_inside (with_mark m group plane) g p g_in p_in in
     let old = marked_inside m g p g_in p_in in
     ⊎_elim
-      (λ (t : ((g == group) && (p == plane)) ≡ true).
-        let same = same_key g group p plane t in
-        let g_same : g ≡ group = same.0 in
-        let p_same : p ≡ plane = same.1 in
-        let own : (bit_at (get_or (with_mark m group plane).bytes (p * row_len m.groups + g / 8) 0) (g % 8) == 1) ≡ true
-          = subst (λ (h : ℕ). (bit_at (get_or (with_mark m group plane).bytes (p * row_len m.groups + h / 8) 0) (h % 8) == 1) ≡ true) (sym g_same)
-            (subst (λ (q : ℕ). (bit_at (get_or (with_mark m group plane).bytes (q * row_len m.groups + group / 8) 0) (group % 8) == 1) ≡ true) (sym p_same)
-              (own_bit m.bytes (plane * row_len m.groups + group / 8) (group % 8) within b_in)) in
-        new ∙ (own ∙ sym (or_right (is_marked m g p) ((g == group) && (p == plane)) t)))
-      (λ (f : ((g == group) && (p == plane)) ≡ false).
-        let apart : (p * row_len m.groups + g / 8) ≡ (plane * row_len m.groups + group / 8) → (g % 8) ≡ (group % 8) → ⊥
-          = λ (e : (p * row_len m.groups + g / 8) ≡ (plane * row_len m.groups + group / 8)) (k : (g % 8) ≡ (group % 8)).
-            let p_same : p ≡ plane = same_place (row_len m.groups) p (g / 8) plane (group / 8) g_row a_row e in
-            let rows : p * row_len m.groups ≡ plane * row_len m.groups = ap (λ n. n * row_len m.groups) p_same in
-            let byte : g / 8 ≡ group / 8 = omega arith in
-            let g_same : g ≡ group = omega arith in
-            both_ways _ f (and_from _ _ (eq-eqb g group g_same) (eq-eqb p plane p_same)) in
-        let bit = new_bit m.bytes (plane * row_len m.groups + group / 8) (p * row_len m.groups + g / 8) (g % 8) (group % 8) within b_in k_in apart in
-        new ∙ (ap (λ n. n == 1) bit ∙ (sym old ∙ (sym (or_false (is_marked m g p)) ∙ ap (λ b. is_marked m g p || b) (sym f)))))
-      (cases_Bool ((g == group) && (p == plane)))
+    (λ (t : ((g == group) && (p == plane)) ≡ true).
+    let same = same_key g group p plane t in
+    let g_same : g ≡ group = same.0 in
+    let p_same : p ≡ plane = same.1 in
+    let own : (bit_at (get_or (with_mark m group plane).bytes (p * row_len m.groups + g / 8) 0) (g % 8) == 1) ≡ true
+    = subst (λ (h : ℕ). (bit_at (get_or (with_mark m group plane).bytes (p * row_len m.groups + h / 8) 0) (h % 8) == 1) ≡ true) (sym g_same)
+    (subst (λ (q : ℕ). (bit_at (get_or (with_mark m group plane).bytes (q * row_len m.groups + group / 8) 0) (group % 8) == 1) ≡ true) (sym p_same)
+    (own_bit m.bytes (plane * row_len m.groups + group / 8) (group % 8) within b_in)) in
+    new ∙ (own ∙ sym (or_right (is_marked m g p) ((g == group) && (p == plane)) t)))
+    (λ (f : ((g == group) && (p == plane)) ≡ false).
+    let apart : (p * row_len m.groups + g / 8) ≡ (plane * row_len m.groups + group / 8) → (g % 8) ≡ (group % 8) → ⊥
+    = λ (e : (p * row_len m.groups + g / 8) ≡ (plane * row_len m.groups + group / 8)) (k : (g % 8) ≡ (group % 8)).
+    let p_same : p ≡ plane = same_place (row_len m.groups) p (g / 8) plane (group / 8) g_row a_row e in
+    let rows : p * row_len m.groups ≡ plane * row_len m.groups = ap (λ n. n * row_len m.groups) p_same in
+    let byte : g / 8 ≡ group / 8 = omega arith in
+    let g_same : g ≡ group = omega arith in
+    both_ways _ f (and_from _ _ (eq-eqb g group g_same) (eq-eqb p plane p_same)) in
+    let bit = new_bit m.bytes (plane * row_len m.groups + group / 8) (p * row_len m.groups + g / 8) (g % 8) (group % 8) within b_in k_in apart in
+    new ∙ (ap (λ n. n == 1) bit ∙ (sym old ∙ (sym (or_false (is_marked m g p)) ∙ ap (λ b. is_marked m g p || b) (sym f)))))
+    (cases_Bool ((g == group) && (p == plane)))
 
 not_it : (m : MarkSet) (group plane : ℕ) → group < m.groups → plane < m.planes → (g p : ℕ) → (nat_lt g m.groups && nat_lt p m.planes) ≡ false → ((g == group) && (p == plane)) ≡ false
 not_it m group plane group_in plane_in g p outside = ⊎_elim
     (λ t.
-      let same = same_key g group p plane t in
-      let g_same : g ≡ group = same.0 in
-      let p_same : p ≡ plane = same.1 in
-      absurd (both_ways _ outside (and_from _ _ (lt-ltb g m.groups (omega arith)) (lt-ltb p m.planes (omega arith)))))
+    let same = same_key g group p plane t in
+    let g_same : g ≡ group = same.0 in
+    let p_same : p ≡ plane = same.1 in
+    absurd (both_ways _ outside (and_from _ _ (lt-ltb g m.groups (omega arith)) (lt-ltb p m.planes (omega arith)))))
     (λ f. f)
     (cases_Bool ((g == group) && (p == plane)))
 
@@ -176,17 +174,17 @@ pub marked_more : (m : MarkSet) (group plane : ℕ) → group < m.groups → pla
 unfolding marked
 marked_more m group plane group_in plane_in size absent p = ⊎_elim
     (λ (same : p ≡ plane).
-      let gone : is_marked m group p ≡ false = ap (is_marked m group) same ∙ absent in
-      let each : (k : ℕ) → is_marked (with_mark m group plane) k p ≡ (is_marked m k p || (k == group))
-        = λ k. with_mark_at m group plane group_in plane_in size k p ∙ ap (λ b. is_marked m k p || b) (ap (λ b. (k == group) && b) (eq-eqb p plane same) ∙ and_true (k == group)) in
-      count_one_more (λ g. is_marked m g p) (λ g. is_marked (with_mark m group plane) g p) group gone each m.groups
-      ∙ (ap (λ b. cond b (marked m p + 1) (marked m p)) (lt-ltb group m.groups group_in)
-      ∙ sym (ap (λ b. cond b (marked m p + 1) (marked m p)) (eq-eqb p plane same))))
+    let gone : is_marked m group p ≡ false = ap (is_marked m group) same ∙ absent in
+    let each : (k : ℕ) → is_marked (with_mark m group plane) k p ≡ (is_marked m k p || (k == group))
+    = λ k. with_mark_at m group plane group_in plane_in size k p ∙ ap (λ b. is_marked m k p || b) (ap (λ b. (k == group) && b) (eq-eqb p plane same) ∙ and_true (k == group)) in
+    count_one_more (λ g. is_marked m g p) (λ g. is_marked (with_mark m group plane) g p) group gone each m.groups
+    ∙ (ap (λ b. cond b (marked m p + 1) (marked m p)) (lt-ltb group m.groups group_in)
+    ∙ sym (ap (λ b. cond b (marked m p + 1) (marked m p)) (eq-eqb p plane same))))
     (λ (other : p ≡ plane → ⊥).
-      let each : (k : ℕ) → is_marked (with_mark m group plane) k p ≡ is_marked m k p
-        = λ k. with_mark_at m group plane group_in plane_in size k p ∙ (ap (λ b. is_marked m k p || ((k == group) && b)) (ne_eqb p plane other) ∙ (ap (λ b. is_marked m k p || b) (and_false (k == group)) ∙ or_false (is_marked m k p))) in
-      count_same (λ g. is_marked m g p) (λ g. is_marked (with_mark m group plane) g p) each (below m.groups)
-      ∙ sym (ap (λ b. cond b (marked m p + 1) (marked m p)) (ne_eqb p plane other)))
+    let each : (k : ℕ) → is_marked (with_mark m group plane) k p ≡ is_marked m k p
+    = λ k. with_mark_at m group plane group_in plane_in size k p ∙ (ap (λ b. is_marked m k p || ((k == group) && b)) (ne_eqb p plane other) ∙ (ap (λ b. is_marked m k p || b) (and_false (k == group)) ∙ or_false (is_marked m k p))) in
+    count_same (λ g. is_marked m g p) (λ g. is_marked (with_mark m group plane) g p) each (below m.groups)
+    ∙ sym (ap (λ b. cond b (marked m p + 1) (marked m p)) (ne_eqb p plane other)))
     (cases_eq p plane)
 
 pub marked_most : (m : MarkSet) (plane : ℕ) → marked m plane ≤ m.groups
@@ -203,17 +201,17 @@ counted_more : (m : MarkSet) (counts : List ℕ) (group plane : ℕ) → group <
     → (p : ℕ) → p < m.planes → get_or (set counts plane (get_or counts plane 0 + 1)) p 0 ≡ marked (with_mark m group plane) p
 counted_more m counts group plane group_in plane_in kept absent p p_in = ⊎_elim
     (λ (same : p ≡ plane).
-      let within : plane < length counts = subst (λ (n : ℕ). plane < n) (sym kept.one_each) plane_in in
-      let new : get_or (set counts plane (get_or counts plane 0 + 1)) plane 0 ≡ get_or counts plane 0 + 1 = rw get_or-set_same refl in
-      ap (λ q. get_or (set counts plane (get_or counts plane 0 + 1)) q 0) same
-      ∙ (new
-      ∙ (ap (λ n. n + 1) (kept.counted plane plane_in)
-      ∙ (ap (λ q. marked m q + 1) (sym same)
-      ∙ sym (marked_more m group plane group_in plane_in kept.size absent p ∙ ap (λ b. cond b (marked m p + 1) (marked m p)) (eq-eqb p plane same))))))
+    let within : plane < length counts = subst (λ (n : ℕ). plane < n) (sym kept.one_each) plane_in in
+    let new : get_or (set counts plane (get_or counts plane 0 + 1)) plane 0 ≡ get_or counts plane 0 + 1 = rw get_or-set_same refl in
+    ap (λ q. get_or (set counts plane (get_or counts plane 0 + 1)) q 0) same
+    ∙ (new
+    ∙ (ap (λ n. n + 1) (kept.counted plane plane_in)
+    ∙ (ap (λ q. marked m q + 1) (sym same)
+    ∙ sym (marked_more m group plane group_in plane_in kept.size absent p ∙ ap (λ b. cond b (marked m p + 1) (marked m p)) (eq-eqb p plane same))))))
     (λ (other : p ≡ plane → ⊥).
-      let ne : p ≢ plane = other in
-      let new : get_or (set counts plane (get_or counts plane 0 + 1)) p 0 ≡ get_or counts p 0 = rw get_or-set_other refl in
-      new ∙ (kept.counted p p_in ∙ sym (marked_more m group plane group_in plane_in kept.size absent p ∙ ap (λ b. cond b (marked m p + 1) (marked m p)) (ne_eqb p plane other))))
+    let ne : p ≢ plane = other in
+    let new : get_or (set counts plane (get_or counts plane 0 + 1)) p 0 ≡ get_or counts p 0 = rw get_or-set_other refl in
+    new ∙ (kept.counted p p_in ∙ sym (marked_more m group plane group_in plane_in kept.size absent p ∙ ap (λ b. cond b (marked m p + 1) (marked m p)) (ne_eqb p plane other))))
     (cases_eq p plane)
 
 -- the set with a key more and the counts with it

@@ -1,5 +1,5 @@
 -- What the calls leave, said of the fields (m, counts) and of the set that they are seen as (v).
-use Rattle.std.proofs.Common.{◌≡◌, ℕ, ◌+◌, ◌*◌, ◌/◌, ◌%◌, ◌^◌, ◌<◌, ◌≤◌, Bool, false, ◌&&◌, ◌||◌, cond, List, length, get_or, set, replicate, refl, ap, sym, ◌∙◌, subst, arith, ◌⊎◌, ⊎_elim}
+use Rattle.std.proofs.Common.{◌≡◌, ℕ, ◌+◌, ◌*◌, ◌/◌, ◌%◌, ◌^◌, ◌<◌, ◌≤◌, false, ◌&&◌, ◌||◌, cond, List, length, get_or, set, replicate, ap, sym, ◌∙◌, subst}
 use Rattle.std.specs.Prelude.{◌==◌, nat_lt}
 use Rattle.std.specs.Int.RustNames.{bit_or}
 use lib.Bits.{bit_and}
@@ -61,7 +61,7 @@ pub set_keeps : (m v : MarkSet) (counts : List ℕ) (group plane place byte coun
 set_keeps m v counts group plane place byte count r =
     let p = plain m v counts group plane place byte count r in
     subst (λ (w : MarkSet). KeepsMarks w (set counts plane (count + 1))) (sym p.mark)
-      (subst (λ (n : ℕ). KeepsMarks (with_mark m group plane) (set counts plane (n + 1))) (sym p.whole) (keeps_more m counts group plane p.group_in p.plane_in p.kept p.absent))
+    (subst (λ (n : ℕ). KeepsMarks (with_mark m group plane) (set counts plane (n + 1))) (sym p.whole) (keeps_more m counts group plane p.group_in p.plane_in p.kept p.absent))
 
 pub set_marks : (m v : MarkSet) (counts : List ℕ) (group plane place byte count : ℕ) → IsReady m v counts group plane place byte count
     → (g q : ℕ) → is_marked (written m group place byte) g q ≡ (is_marked v g q || ((g == group) && (q == plane)))
@@ -110,7 +110,7 @@ none_past_planes m v group plane seen past =
 pub zeros_keep : (groups planes : ℕ) (bytes counts : List ℕ) → bytes ≡ replicate (planes * row_len groups) 0 → counts ≡ replicate planes 0 → KeepsMarks (record { groups = groups; planes = planes; bytes = bytes }) counts
 zeros_keep groups planes bytes counts b c =
     subst (λ (xs : List ℕ). KeepsMarks (record { groups = groups; planes = planes; bytes = xs }) counts) (sym b)
-      (subst (λ (xs : List ℕ). KeepsMarks (record { groups = groups; planes = planes; bytes = replicate (planes * row_len groups) 0 }) xs) (sym c) (keeps_zeros groups planes))
+    (subst (λ (xs : List ℕ). KeepsMarks (record { groups = groups; planes = planes; bytes = replicate (planes * row_len groups) 0 }) xs) (sym c) (keeps_zeros groups planes))
 
 pub zeros_empty : (groups planes n : ℕ) (bytes : List ℕ) → bytes ≡ replicate n 0 → (group plane : ℕ) → is_marked (record { groups = groups; planes = planes; bytes = bytes }) group plane ≡ false
 zeros_empty groups planes n bytes b group plane =

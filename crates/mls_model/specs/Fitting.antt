@@ -17,12 +17,12 @@ has_its_cells s rank p = overlaps s rank p.client && (p.first == (overlap s rank
 -- the first reason for which a piece on a client lane is foreign to a rank
 abbrev pub piece_reason : Sizes → ℕ → Piece → Option Reason
 piece_reason s rank p =
-  cond (not (p.rows == s.parameters + 2)) (Some reason.Rows)
-  (cond (not (nat_lt p.group s.groups)) (Some reason.Group)
-  (cond (not (nat_lt p.plane (planes s))) (Some reason.Step)
-  (cond (not (nat_lt p.client s.clients)) (Some reason.Client)
-  (cond (not (has_its_cells s rank p)) (Some reason.Cells)
-  None))))
+    cond (not (p.rows == s.parameters + 2)) (Some reason.Rows)
+    (cond (not (nat_lt p.group s.groups)) (Some reason.Group)
+    (cond (not (nat_lt p.plane (planes s))) (Some reason.Step)
+    (cond (not (nat_lt p.client s.clients)) (Some reason.Client)
+    (cond (not (has_its_cells s rank p)) (Some reason.Cells)
+    None))))
 
 -- the first reason for which an event is foreign to a rank
 abbrev pub frame_reason : Sizes → ℕ → LaneKind → Frame → Option Reason

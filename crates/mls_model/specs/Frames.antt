@@ -106,13 +106,13 @@ fixed_length kind = cond (kind == 2 || kind == 3) 9 (cond (kind == 4 || kind == 
 -- the frame of a kind other than 1 with these fields
 unfoldable pub fixed_frame : ℕ → List ℕ → Frame
 fixed_frame kind fields =
-  cond (kind == 2) (beat (number w32 0 fields) (number w32 4 fields))
-  (cond (kind == 3) (bye (number w32 0 fields) (number w32 4 fields))
-  (cond (kind == 4) save
-  (cond (kind == 5) crash
-  (cond (kind == 6) (hello (number w16 0 fields) (number w32 2 fields) (number w32 6 fields) (number w16 10 fields) (number w16 12 fields))
-  (cond (kind == 7) (welcome (number w32 0 fields))
-  (refuse (from_be_bytes w16 (0 ∷ take 1 fields)) (number w32 1 fields)))))))
+    cond (kind == 2) (beat (number w32 0 fields) (number w32 4 fields))
+    (cond (kind == 3) (bye (number w32 0 fields) (number w32 4 fields))
+    (cond (kind == 4) save
+    (cond (kind == 5) crash
+    (cond (kind == 6) (hello (number w16 0 fields) (number w32 2 fields) (number w32 6 fields) (number w16 10 fields) (number w16 12 fields))
+    (cond (kind == 7) (welcome (number w32 0 fields))
+    (refuse (from_be_bytes w16 (0 ∷ take 1 fields)) (number w32 1 fields)))))))
 
 -- the piece with these fields
 unfoldable pub piece_in : List ℕ → Piece
@@ -130,17 +130,17 @@ piece_in fields = record {
 -- The table of lengths, from the kind byte on. size is the body's length, fields what stands after the kind byte.
 unfoldable pub fixed_sight : ℕ → ℕ → List ℕ → Sight
 fixed_sight size kind fields =
-  cond (not (size == fixed_length kind)) (bad BadLength)
-  (cond (nat_lt (1 + length fields) size) more
-  (whole (fixed_frame kind fields) (4 + size)))
+    cond (not (size == fixed_length kind)) (bad BadLength)
+    (cond (nat_lt (1 + length fields) size) more
+    (whole (fixed_frame kind fields) (4 + size)))
 
 unfoldable pub piece_sight : ℕ → List ℕ → Sight
 piece_sight size fields =
-  cond (nat_lt size 25 || (size % 2 == 0)) (bad BadLength)
-  (cond (nat_lt (length fields) 24) more
-  (cond (not (size == 25 + 2 * (number w16 14 fields * number w32 20 fields))) (bad BadLength)
-  (cond (nat_lt (1 + length fields) size) more
-  (whole (piece (piece_in fields)) (4 + size)))))
+    cond (nat_lt size 25 || (size % 2 == 0)) (bad BadLength)
+    (cond (nat_lt (length fields) 24) more
+    (cond (not (size == 25 + 2 * (number w16 14 fields * number w32 20 fields))) (bad BadLength)
+    (cond (nat_lt (1 + length fields) size) more
+    (whole (piece (piece_in fields)) (4 + size)))))
 
 -- whether no body has this length
 abbrev pub is_no_length : ℕ → Bool
@@ -149,9 +149,9 @@ is_no_length size = (size == 0) || nat_lt longest_body size
 unfoldable pub sized_sight : ℕ → List ℕ → Sight
 sized_sight size [] = cond (is_no_length size) (bad BadLength) more
 sized_sight size (kind ∷ fields) =
-  cond (is_no_length size) (bad BadLength)
-  (cond (nat_lt kind 1 || nat_lt 8 kind) (bad BadKind)
-  (cond (kind == 1) (piece_sight size fields) (fixed_sight size kind fields)))
+    cond (is_no_length size) (bad BadLength)
+    (cond (nat_lt kind 1 || nat_lt 8 kind) (bad BadKind)
+    (cond (kind == 1) (piece_sight size fields) (fixed_sight size kind fields)))
 
 -- what the front of the bytes is
 unfoldable pub sight : List ℕ → Sight

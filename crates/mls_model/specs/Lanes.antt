@@ -35,11 +35,11 @@ end_at place (b ∷ rest) = end_by place (sight (b ∷ rest))
 unfoldable pub frames_in : ℕ → List ℕ → List Frame × List ℕ
 frames_in zero bytes = ([], bytes)
 frames_in (suc n) bytes =
-  elim (sight bytes) [
-    whole frame used ↦ (frame ∷ (frames_in n (drop used bytes)).0, (frames_in n (drop used bytes)).1)
-  | more ↦ ([], bytes)
-  | bad fault ↦ ([], bytes)
-  ]
+    elim (sight bytes) [
+      | whole frame used ↦ (frame ∷ (frames_in n (drop used bytes)).0, (frames_in n (drop used bytes)).1)
+      | more ↦ ([], bytes)
+      | bad fault ↦ ([], bytes)
+    ]
 
 -- those of all the bytes: no lane has more frames than bytes
 abbrev pub lane_frames : List ℕ → List Frame
@@ -146,9 +146,9 @@ most_events = 16777216
 unfoldable pub counted : ℕ → List LaneBytes → Read (List Lane)
 counted before [] = Ok []
 counted before (lane ∷ lanes) =
-  cond (nat_lt most_events (before + length (lane_frames lane.bytes))) (refused lane.at why.TooManyEvents) (do
-    others ← counted (before + length (lane_frames lane.bytes)) lanes
-    Ok (lane_of lane.rank lane.kind lane.bytes ∷ others))
+    cond (nat_lt most_events (before + length (lane_frames lane.bytes))) (refused lane.at why.TooManyEvents) (do
+      others ← counted (before + length (lane_frames lane.bytes)) lanes
+      Ok (lane_of lane.rank lane.kind lane.bytes ∷ others))
 
 -- the tape that the bytes are, or the first fault
 unfoldable pub tape_of : ℕ → Bool → List ℕ → Read (List Lane)

@@ -18,11 +18,11 @@ use Rattle.mls_model.specs.Completion.{key_of, is_later_life, is_share, is_compl
 -- the outcome of a fitting piece after others: the first that holds
 unfoldable pub piece_outcome : Sizes → ℕ → List Piece → Piece → Outcome
 piece_outcome s rank before p =
-  cond (is_completed s rank (key_of p) before) Replay
-  (cond (list_any (is_later_life (key_of p) p.life) before) Stale
-  (cond (list_any (is_share (key_of p) p.life p.client) before) Repeated
-  (cond (completes s rank before p) Accepted
-  Kept)))
+    cond (is_completed s rank (key_of p) before) Replay
+    (cond (list_any (is_later_life (key_of p) p.life) before) Stale
+    (cond (list_any (is_share (key_of p) p.life p.client) before) Repeated
+    (cond (completes s rank before p) Accepted
+    Kept)))
 
 -- the outcome of an event for which no foreign reason holds
 abbrev pub native_outcome : Sizes → ℕ → List Piece → LaneKind → Frame → Outcome
@@ -34,9 +34,9 @@ native_outcome s rank before _ _ = Quiet
 -- the outcome of an event after surviving ones
 unfoldable pub outcome : Sizes → ℕ → List Event → Event → Outcome
 outcome s rank before e = elim (frame_reason s rank e.kind e.frame) [
-    Some r ↦ Foreign r
+  | Some r ↦ Foreign r
   | None ↦ native_outcome s rank (fitting s rank before) e.kind e.frame
-  ]
+]
 
 -- the outcomes of surviving events, in order
 unfoldable pub outcomes : Sizes → ℕ → List Event → List Outcome

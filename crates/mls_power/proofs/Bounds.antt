@@ -50,7 +50,7 @@ third_from n p1 p2 p3 ws count first second third =
     ap (λ k. third_form k p1 p2 p3) count ∙ (ap (λ k. third_form (length ws) k p2 p3) first ∙ (ap (λ k. third_form (length ws) (sum_by (λ w. w) ws) k p3) second ∙ (ap (λ k. third_form (length ws) (sum_by (λ w. w) ws) (sum_by (λ w. w * w) ws) k) third ∙ sym (third-pos ws))))
 
 -- the square of a list's sum is at most its length times the sum of its squares
-spread_of : (ns : List ℕ) → sum_by (λ x. x) ns * sum_by (λ x. x) ns ≤ length ns * sum_by (λ x. x * x) ns
+pub spread_of : (ns : List ℕ) → sum_by (λ x. x) ns * sum_by (λ x. x) ns ≤ length ns * sum_by (λ x. x * x) ns
 spread_of [] = omega arith
 spread_of (x ∷ ns) = rw (sum_by-cons (λ y. y) x ns, sum_by-cons (λ y. y * y) x ns) (omega (arith, spread_more (length ns) (sum_by (λ y. y) ns) (sum_by (λ y. y * y) ns) x (spread_of ns)))
 
@@ -61,11 +61,11 @@ pub variance_from_zero : (ws : List ℤ) → pos 0 ≤ℤ variance_top ws
 variance_from_zero ws = of_every_list (λ ws. pos 0 ≤ℤ variance_top ws)
     (λ k ns. subst (λ (v : ℤ). pos 0 ≤ℤ v) (sym (variance_lower k ns ∙ variance-pos ns)) (not_negative _ _ (spread_of ns))) ws
 
-sums_of_bounded : (f g : ℕ → ℕ) → ((x : ℕ) → x < 65536 → f x ≤ 65535 * g x) → (ns : List ℕ) → AllByRecursion (λ x. x < 65536) ns → sum_by f ns ≤ 65535 * sum_by g ns
+pub sums_of_bounded : (f g : ℕ → ℕ) → ((x : ℕ) → x < 65536 → f x ≤ 65535 * g x) → (ns : List ℕ) → AllByRecursion (λ x. x < 65536) ns → sum_by f ns ≤ 65535 * sum_by g ns
 sums_of_bounded f g each [] all = omega arith
 sums_of_bounded f g each (x ∷ ns) all = omega (arith, sum_by-cons f x ns, sum_by-cons g x ns, each x all.0, sums_of_bounded f g each ns all.1)
 
-ones : (ns : List ℕ) → sum_by (λ x. 1) ns ≡ length ns
+pub ones : (ns : List ℕ) → sum_by (λ x. 1) ns ≡ length ns
 ones [] = refl
 ones (x ∷ ns) = omega (arith, sum_by-cons (λ y. 1) x ns, ones ns)
 

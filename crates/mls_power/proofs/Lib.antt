@@ -4,3 +4,6 @@ pub mod Deviations
 pub mod Translates
 pub mod Bounds
 pub mod Values
+pub mod Least
+pub mod Counted
+pub mod Ruled

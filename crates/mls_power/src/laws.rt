@@ -1,11 +1,15 @@
 //! Laws of the statistics by two passes, for every list of values.
 
-ghost use Rattle.std.specs.Prelude.{◌≡◌, ℕ, ◌*◌, ◌+◌, ◌<◌, ◌≤◌, Bool, List, length, map, sum_by, ℤ, pos, ◌*ℤ◌, ◌-ℤ◌, ◌≤ℤ◌, FitsSigned};
+ghost use Rattle.std.specs.Prelude.{◌≡◌, ℕ, ◌*◌, ◌+◌, ◌<◌, ◌≤◌, Bool, List, length, map, sum_by, ℤ, pos, ◌*ℤ◌, ◌-ℤ◌, ◌≤ℤ◌, FitsSigned, IsTrue};
 ghost use Rattle.std.specs.List.{AllByRecursion};
 ghost use Rattle.std.specs.Int.{w128};
 ghost use Rattle.mls_model.specs.Numbers.{sum_ints, square, cube};
 ghost use Rattle.mls_model.specs.Samples.{unshifted};
 ghost use Rattle.mls_model.specs.Statistics.{size, deviation, variance_top, third_top};
+ghost use Rattle.mls_model.specs.Studies.{rises};
+ghost use Rattle.mls_power.specs.Extremes.{least_in, greatest_in, HoldsExtrema};
+ghost use Rattle.mls_power.specs.NumbersAbove.{HoldsAbove};
+ghost use Rattle.mls_power.specs.Rules.{AreSums, AreExtrema, AreNumbersOf};
 
 /// The divisions in V and U leave no rest.
 pub fn tops_are_whole()
@@ -33,4 +37,11 @@ pub fn variance_top_is_from_zero()
 /// U of at most 131,070 samples of 16 bits fits 128 bits.
 pub fn third_top_fits()
     ensures { (signed : Bool) (ws : List ℕ) → length ws ≤ 131070 → AllByRecursion (λ w. w < 65536) ws → FitsSigned w128 (third_top (map (unshifted signed) ws)) }
+{}
+
+/// The rules on sums, extrema and numbers above thresholds hold of those of every list of samples of 16 bits.
+pub fn rules_of_samples()
+    ensures sums { (ws : List ℕ) → AllByRecursion (λ w. w < 65536) ws → AreSums (length ws) (sum_by (λ w. w) ws) (sum_by (λ w. w * w) ws) (sum_by (λ w. w * w * w) ws) (sum_by (λ w. w * w * (w * w)) ws) }
+    ensures extrema { (ends ws : List ℕ) → HoldsExtrema ends ws → AreExtrema (length ws) (least_in ends) (greatest_in ends) }
+    ensures above { (thresholds numbers ws : List ℕ) → IsTrue (rises thresholds) → length numbers ≡ length thresholds → HoldsAbove thresholds numbers ws → AreNumbersOf (length thresholds) (length ws) numbers }
 {}

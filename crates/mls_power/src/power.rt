@@ -3,7 +3,7 @@
 ghost use Rattle.std.specs.Prelude.{◌≡◌, ◌≤◌};
 ghost use Rattle.mls_power.specs.PowerSums.{AreInRange};
 
-use crate::sums::{POWER_WORDS, add_sample, wide};
+use crate::sums::{POWER_WORDS, add_sample, are_sums, halves, wide};
 
 /// The number of samples, and the sums of their first to fourth powers.
 #[derive(Clone, Copy, Debug)]
@@ -29,10 +29,11 @@ const SHIFT: u64 = 32768;
 const SQUARE: u128 = 1073741824;
 
 impl Power {
-    ghost use Rattle.std.specs.Prelude.{◌≡◌, ℕ, ◌+◌, ◌*◌, ◌<◌, ◌≤◌, Bool, true, List, [], ◌∷◌, ◌++◌, length, map, pos};
+    ghost use Rattle.std.specs.Prelude.{◌≡◌, ℕ, ◌+◌, ◌*◌, ◌<◌, ◌≤◌, ◌↔◌, Bool, true, List, [], ◌∷◌, ◌++◌, length, map, pos, IsSome, IfSome};
     ghost use Rattle.mls_model.specs.Samples.{unshifted};
     ghost use Rattle.mls_model.specs.Statistics.{variance_top, third_top};
     ghost use Rattle.mls_power.specs.PowerSums.{HoldsSums, AreInRange};
+    ghost use Rattle.mls_power.specs.Rules.{AreSums};
     ghost use Rattle.mls_power.specs.Standing.{count_of, first_of, second_of, third_of, fourth_of, StandsFor, ArePowers};
 
     /// The sums of no samples.
@@ -55,6 +56,28 @@ impl Power {
     {
         let sums = [words[0], words[1], words[2], words[3], words[4], words[5]];
         Power { count, sums }
+    }
+
+    /// So many samples with these sums of their first to fourth powers, or None exactly where a rule on such sums fails:
+    /// each is at most 65,535 times the one before it, the first at most 65,535 times the count, and the square of the first at most the count times the second.
+    pub fn of(count: u32, p1: u64, p2: u64, p3: u128, p4: u128) -> Option<Power>
+        requires { count ≤ 131070 }
+        ensures valid { IsSome result ↔ AreSums count p1 p2 p3 p4 }
+        ensures count { IfSome result (λ p. count_of p ≡ count) }
+        ensures first { IfSome result (λ p. first_of p ≡ p1) }
+        ensures second { IfSome result (λ p. second_of p ≡ p2) }
+        ensures third { IfSome result (λ p. third_of p ≡ p3) }
+        ensures fourth { IfSome result (λ p. fourth_of p ≡ p4) }
+    {
+        if !are_sums(count, p1, p2, p3, p4) {
+            return None;
+        }
+        let (third_low, third_high) = halves(p3);
+        let (fourth_low, fourth_high) = halves(p4);
+        Some(Power {
+            count,
+            sums: [p1, p2, third_low, third_high, fourth_low, fourth_high],
+        })
     }
 
     /// Adds a sample.
@@ -84,6 +107,13 @@ impl Power {
         ensures spread { first_of self.now * first_of self.now ≤ count_of self.now * second_of self.now }
     {
         let _few = self.count;
+    }
+
+    /// The rules on sums hold of every value.
+    pub fn rules(&self)
+        ensures { AreSums (count_of self.now) (first_of self.now) (second_of self.now) (third_of self.now) (fourth_of self.now) }
+    {
+        let _count = self.count;
     }
 
     /// The sum of the samples.

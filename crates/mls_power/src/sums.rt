@@ -1,7 +1,8 @@
 //! Power sums in six words of packed storage.
 
-ghost use Rattle.std.specs.Prelude.{◌≡◌, ℕ, ◌+◌, ◌*◌, ◌^◌, ◌<◌, List, [], ◌∷◌, ◌++◌, length};
+ghost use Rattle.std.specs.Prelude.{◌≡◌, ℕ, ◌+◌, ◌*◌, ◌^◌, ◌<◌, ◌≤◌, ◌↔◌, List, [], ◌∷◌, ◌++◌, length, IsTrue};
 ghost use Rattle.mls_power.specs.PowerSums.{HoldsSums, AreInRange};
+ghost use Rattle.mls_power.specs.Rules.{AreSums};
 
 /// The number of words that hold the power sums of a list of samples.
 pub const POWER_WORDS: usize = 6;
@@ -24,6 +25,25 @@ fn wide_sum(low: u64, high: u64, more: u64) -> (u64, u64)
     } else {
         (sum, high)
     }
+}
+
+/// The two words of a number, the low one first.
+pub(crate) fn halves(n: u128) -> (u64, u64)
+    ensures { result.0 + 2 ^ 64 * result.1 ≡ n }
+{
+    ((n % (1 << 64)) as u64, (n >> 64) as u64)
+}
+
+/// Whether these are sums of so many samples' first to fourth powers by the rules that hold of such sums.
+pub(crate) fn are_sums(count: u32, p1: u64, p2: u64, p3: u128, p4: u128) -> bool
+    requires { count ≤ 131070 }
+    ensures { IsTrue result ↔ AreSums count p1 p2 p3 p4 }
+{
+    p1 <= 65535 * count as u64
+        && p2 <= 65535 * p1
+        && p1 as u128 * p1 as u128 <= count as u128 * p2 as u128
+        && p3 <= 65535 * p2 as u128
+        && p4 <= 65535 * p3
 }
 
 /// Adds a sample to the sums that the words hold. The words are the first two sums, then the third and the fourth of two words each, the low one first.

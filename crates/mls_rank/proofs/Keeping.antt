@@ -1,10 +1,10 @@
 -- What a rank keeps after one more fitting piece.
-use Rattle.std.proofs.Common.{◌≡◌, ℕ, ◌+◌, ◌*◌, ◌<◌, Bool, true, false, not, ◌&&◌, ◌||◌, cond, List, [], ◌∷◌, ◌++◌, length, map, refl, ap, sym, ◌∙◌, ⊎_elim, subst, arith, length-append}
+use Rattle.std.proofs.Common.{◌≡◌, ℕ, ◌+◌, ◌*◌, ◌<◌, Bool, true, false, ◌&&◌, ◌||◌, cond, List, [], ◌∷◌, ◌++◌, length, map, refl, ap, sym, ◌∙◌, ⊎_elim, subst, arith, length-append}
 use Rattle.std.specs.Prelude.{◌==◌, nat_lt, slice_index}
 use Rattle.std.specs.List.{list_any, AllByRecursion}
 use Rattle.std.proofs.lemmas.List.{append-nil}
 use Rattle.std.proofs.lemmas.Simd.{map-map}
-use Rattle.std.proofs.lemmas.Bool.{cases_Bool, or_right, not_from_true, not_from_false}
+use Rattle.std.proofs.lemmas.Bool.{cases_Bool, not_from_true, not_from_false}
 use Rattle.std.proofs.lemmas.Bool.Decides.{nat_tests}
 use Rattle.mls_model.specs.declared.outcomes.Outcome.TheVariants.{Accepted, Replay}
 use Rattle.mls_model.specs.Numbers.{below}
@@ -67,9 +67,9 @@ none_added false c xs x h = append-nil xs
 or_marked : (s : Sizes) (rank : ℕ) (marks : ℕ → ℕ → Bool) (group plane : ℕ) (p : Piece) → marks p.group p.plane ≡ true → (marks group plane || is_of_key (record { group = group; plane = plane }) p) ≡ marks group plane
 or_marked s rank marks group plane p seen = ⊎_elim
     (λ t.
-      let same = same_key (record { group = group; plane = plane }) p t in
-      let here : marks group plane ≡ true = ap (λ (k : Key). marks k.group k.plane) (sym same) ∙ seen in
-      rw here refl)
+    let same = same_key (record { group = group; plane = plane }) p t in
+    let here : marks group plane ≡ true = ap (λ (k : Key). marks k.group k.plane) (sym same) ∙ seen in
+    rw here refl)
     (λ f. rw f (or_none (marks group plane)))
     (cases_Bool (is_of_key (record { group = group; plane = plane }) p))
 
@@ -81,9 +81,9 @@ keeps_replay s rank marks groups stands pieces p one all fit seen kept =
     let none : completes s rank pieces p ≡ false = completes_where_new s rank pieces p one all fit ∙ not_from_true _ found in
     record {
       marked = λ group plane.
-        sym (completed_more s rank (record { group = group; plane = plane }) pieces p one all fit
-        ∙ (ap (λ b. b || is_of_key (record { group = group; plane = plane }) p) (sym (kept.marked group plane))
-        ∙ or_marked s rank marks group plane p seen));
+          sym (completed_more s rank (record { group = group; plane = plane }) pieces p one all fit
+          ∙ (ap (λ b. b || is_of_key (record { group = group; plane = plane }) p) (sym (kept.marked group plane))
+          ∙ or_marked s rank marks group plane p seen));
       accepted = λ plane. kept.accepted plane ∙ sym (ap length (accepted_more s rank plane pieces p ∙ none_added (p.plane == plane) (completes s rank pieces p) (accepted s rank plane pieces) p.group none));
       rows = subst stands (sym (table_replay s rank pieces p one all fit found)) kept.rows;
     }
@@ -110,18 +110,18 @@ keeps_accepted s rank marks new_marks groups new_groups stands new_stands pieces
     let done : completes s rank pieces p ≡ true = completes_where_new s rank pieces p one all fit ∙ not_from_false _ new in
     record {
       marked = λ group plane.
-        marked group plane
-        ∙ (ap (λ b. b || ((group == p.group) && (plane == p.plane))) (kept.marked group plane)
-        ∙ (ap (λ b. is_completed s rank (record { group = group; plane = plane }) pieces || b) (ap (λ b. b && (plane == p.plane)) (same_test group p.group) ∙ ap (λ b. (p.group == group) && b) (same_test plane p.plane))
-        ∙ sym (completed_more s rank (record { group = group; plane = plane }) pieces p one all fit)));
+          marked group plane
+          ∙ (ap (λ b. b || ((group == p.group) && (plane == p.plane))) (kept.marked group plane)
+          ∙ (ap (λ b. is_completed s rank (record { group = group; plane = plane }) pieces || b) (ap (λ b. b && (plane == p.plane)) (same_test group p.group) ∙ ap (λ b. (p.group == group) && b) (same_test plane p.plane))
+          ∙ sym (completed_more s rank (record { group = group; plane = plane }) pieces p one all fit)));
       accepted = λ plane.
-        counted plane
-        ∙ (ap (λ n. cond (plane == p.plane) (n + 1) n) (kept.accepted plane)
-        ∙ (ap (λ b. cond b (length (accepted s rank plane pieces) + 1) (length (accepted s rank plane pieces))) (same_test plane p.plane)
-        ∙ sym (ap length (accepted_more s rank plane pieces p) ∙ one_longer (p.plane == plane) (completes s rank pieces p) (accepted s rank plane pieces) p.group done)));
+          counted plane
+          ∙ (ap (λ n. cond (plane == p.plane) (n + 1) n) (kept.accepted plane)
+          ∙ (ap (λ b. cond b (length (accepted s rank plane pieces) + 1) (length (accepted s rank plane pieces))) (same_test plane p.plane)
+          ∙ sym (ap length (accepted_more s rank plane pieces p) ∙ one_longer (p.plane == plane) (completes s rank pieces p) (accepted s rank plane pieces) p.group done)));
       rows = subst new_stands
-        (ap (with_block (rank_table s rank pieces) p.plane (width (block s rank))) (rows_same s p) ∙ sym (table_accepted s rank pieces p one is all fit new))
-        (added (rank_table s rank pieces) kept.rows);
+          (ap (with_block (rank_table s rank pieces) p.plane (width (block s rank))) (rows_same s p) ∙ sym (table_accepted s rank pieces p one is all fit new))
+          (added (rank_table s rank pieces) kept.rows);
     }
 
 pub outcome_replay : (s : Sizes) (rank : ℕ) (marks : ℕ → ℕ → Bool) (groups : ℕ → ℕ) (stands : Table → Type 0) (pieces : List Piece) (p : Piece) → s.clients ≡ 1 → AllByRecursion (Fits s rank) pieces → Fits s rank p
@@ -144,13 +144,13 @@ pub keeps_taken : (s fold_sizes : Sizes) (rank fold_rank : ℕ) (marks new_marks
     → KeepsRows s rank marks groups stands pieces → KeepsRows s rank new_marks new_groups new_stands (pieces ++ p ∷ [])
 keeps_taken s fold_sizes rank fold_rank marks new_marks groups new_groups stands new_stands pieces p group plane row_plane sizes one within s_same r_same g_same p_same q_same all fit absent marked counted added kept =
     keeps_accepted s rank marks new_marks groups new_groups stands new_stands pieces p one (is_block s rank sizes within) all fit absent
-      (λ g q. marked g q ∙ (ap (λ n. marks g q || ((g == n) && (q == plane))) g_same ∙ ap (λ n. marks g q || ((g == p.group) && (q == n))) p_same))
-      (λ q. counted q ∙ ap (λ n. cond (q == n) (groups q + 1) (groups q)) p_same)
-      (λ t h.
-        subst (λ (z : Sizes). new_stands (with_block t p.plane (width (block z rank)) (shifted_row z.signed p.rows (λ row place. slice_index p.samples (row * p.count + place))))) s_same
-          (subst (λ (r : ℕ). new_stands (with_block t p.plane (width (block fold_sizes r)) (shifted_row fold_sizes.signed p.rows (λ row place. slice_index p.samples (row * p.count + place))))) r_same
-            (subst (λ (q : ℕ). new_stands (with_block t q (width (block fold_sizes fold_rank)) (shifted_row fold_sizes.signed p.rows (λ row place. slice_index p.samples (row * p.count + place))))) q_same (added t h))))
-      kept
+    (λ g q. marked g q ∙ (ap (λ n. marks g q || ((g == n) && (q == plane))) g_same ∙ ap (λ n. marks g q || ((g == p.group) && (q == n))) p_same))
+    (λ q. counted q ∙ ap (λ n. cond (q == n) (groups q + 1) (groups q)) p_same)
+    (λ t h.
+    subst (λ (z : Sizes). new_stands (with_block t p.plane (width (block z rank)) (shifted_row z.signed p.rows (λ row place. slice_index p.samples (row * p.count + place))))) s_same
+    (subst (λ (r : ℕ). new_stands (with_block t p.plane (width (block fold_sizes r)) (shifted_row fold_sizes.signed p.rows (λ row place. slice_index p.samples (row * p.count + place))))) r_same
+    (subst (λ (q : ℕ). new_stands (with_block t q (width (block fold_sizes fold_rank)) (shifted_row fold_sizes.signed p.rows (λ row place. slice_index p.samples (row * p.count + place))))) q_same (added t h))))
+    kept
 
 -- what a test of the marks said
 pub mark_at : (marks : ℕ → ℕ → Bool) (has answer : Bool) (group plane g q : ℕ) → has ≡ marks group plane → group ≡ g → plane ≡ q → has ≡ answer → marks g q ≡ answer

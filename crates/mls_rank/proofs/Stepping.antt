@@ -1,5 +1,5 @@
 -- From fitting pieces to histories.
-use Rattle.std.proofs.Common.{◌≡◌, ℕ, Bool, true, false, List, [], ◌∷◌, ◌++◌, Option, Some, None, refl, ap, sym, ◌∙◌, subst}
+use Rattle.std.proofs.Common.{◌≡◌, ℕ, Bool, true, false, List, [], ◌∷◌, ◌++◌, Option, None, refl, ap, sym, ◌∙◌, subst}
 use Rattle.std.specs.Option.{option_to_list}
 use Rattle.std.proofs.lemmas.List.{append-nil}
 use Rattle.mls_model.specs.declared.lanes.LaneKind.{LaneKind}
@@ -62,14 +62,14 @@ pub holds_step : {F : Type 0} (stands : F → Table → Type 0) (s s1 s2 : Sizes
     → KeepsRows s2 r2 (is_marked m2) (marked m2) (stands f2) (fitting s2 r2 (surviving (history ++ e ∷ [])))
 holds_step {F} stands s s1 s2 r r1 r2 m1 m2 f1 f2 history e none s_same s_kept r_same r_kept m_kept f_kept held =
     let whole : KeepsRows s1 r1 (is_marked m1) (marked m1) (stands f1) (fitting s r (surviving (history ++ e ∷ [])))
-      = subst (KeepsRows s1 r1 (is_marked m1) (marked m1) (stands f1)) (pieces_step s r history e none) held in
+    = subst (KeepsRows s1 r1 (is_marked m1) (marked m1) (stands f1)) (pieces_step s r history e none) held in
     let sized : KeepsRows s1 r1 (is_marked m1) (marked m1) (stands f1) (fitting s1 r1 (surviving (history ++ e ∷ [])))
-      = subst (λ (z : Sizes). KeepsRows s1 r1 (is_marked m1) (marked m1) (stands f1) (fitting z r1 (surviving (history ++ e ∷ [])))) (sym s_same)
-        (subst (λ (q : ℕ). KeepsRows s1 r1 (is_marked m1) (marked m1) (stands f1) (fitting s q (surviving (history ++ e ∷ [])))) (sym r_same) whole) in
+    = subst (λ (z : Sizes). KeepsRows s1 r1 (is_marked m1) (marked m1) (stands f1) (fitting z r1 (surviving (history ++ e ∷ [])))) (sym s_same)
+    (subst (λ (q : ℕ). KeepsRows s1 r1 (is_marked m1) (marked m1) (stands f1) (fitting s q (surviving (history ++ e ∷ [])))) (sym r_same) whole) in
     subst (λ (f : F). KeepsRows s2 r2 (is_marked m2) (marked m2) (stands f) (fitting s2 r2 (surviving (history ++ e ∷ [])))) (sym f_kept)
-      (subst (λ (m : MarkSet). KeepsRows s2 r2 (is_marked m) (marked m) (stands f1) (fitting s2 r2 (surviving (history ++ e ∷ [])))) (sym m_kept)
-        (subst (λ (q : ℕ). KeepsRows s2 q (is_marked m1) (marked m1) (stands f1) (fitting s2 q (surviving (history ++ e ∷ [])))) (sym r_kept)
-          (subst (λ (z : Sizes). KeepsRows z r1 (is_marked m1) (marked m1) (stands f1) (fitting z r1 (surviving (history ++ e ∷ [])))) (sym s_kept) sized)))
+    (subst (λ (m : MarkSet). KeepsRows s2 r2 (is_marked m) (marked m) (stands f1) (fitting s2 r2 (surviving (history ++ e ∷ [])))) (sym m_kept)
+    (subst (λ (q : ℕ). KeepsRows s2 q (is_marked m1) (marked m1) (stands f1) (fitting s2 q (surviving (history ++ e ∷ [])))) (sym r_kept)
+    (subst (λ (z : Sizes). KeepsRows z r1 (is_marked m1) (marked m1) (stands f1) (fitting z r1 (surviving (history ++ e ∷ [])))) (sym s_kept) sized)))
 
 -- counts at equal numbers
 pub counts_at : (s s' : Sizes) (r r' : ℕ) (c : Counts) (events : List Event) → s' ≡ s → r' ≡ r → c ≡ counts s r events → c ≡ counts s' r' events

@@ -1,7 +1,7 @@
 -- Words on outcomes and counts.
 use Rattle.std.specs.Prelude.{Bool, true, false}
 use Rattle.mls_model.specs.declared.outcomes.Outcome.{Outcome}
-use Rattle.mls_model.specs.declared.outcomes.Outcome.TheVariants.{Accepted, Kept, Replay, Stale, Repeated, Foreign, Quiet, Save, Crash}
+use Rattle.mls_model.specs.declared.outcomes.Outcome.TheVariants.{Quiet, Save, Crash}
 use Rattle.mls_model.specs.declared.outcomes.Counts.{Counts}
 
 -- the counts before any event

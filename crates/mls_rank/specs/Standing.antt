@@ -1,5 +1,5 @@
 -- Which history a core stands for.
-use Rattle.std.specs.Prelude.{◌≡◌, ℕ, ◌<◌, Bool, true, false, List, [], ◌∷◌, ◌++◌, length, Option, Some, None, IfSome}
+use Rattle.std.specs.Prelude.{◌≡◌, ℕ, ◌<◌, Bool, List, length, Some, None}
 use Rattle.mls_model.specs.declared.lanes.LaneKind.{LaneKind}
 use Rattle.mls_model.specs.declared.outcomes.Outcome.{Outcome}
 use Rattle.mls_model.specs.declared.outcomes.Outcome.TheVariants.{Foreign}

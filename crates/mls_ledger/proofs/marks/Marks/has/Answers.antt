@@ -7,8 +7,8 @@ pub returns-then-group-self : goal.returns-then-group-self
 returns-then-group-self c =
     let m : MarkSet = record { groups = c.self.inside.groups; planes = c.self.inside.planes; bytes = c.self.inside.bytes.items } in
     elim c.then-group-self.branch [
-      then-group-self-via-then-group-self w ↦ none_past_groups m c.args.self.now c.args.group c.args.plane c.self.view_is w.if-group-self.true
-    | then-group-self-via-else-group-self+then-plane-self w ↦ none_past_planes m c.args.self.now c.args.group c.args.plane c.self.view_is w.if-plane-self.true
+      | then-group-self-via-then-group-self w ↦ none_past_groups m c.args.self.now c.args.group c.args.plane c.self.view_is w.if-group-self.true
+      | then-group-self-via-else-group-self+then-plane-self w ↦ none_past_planes m c.args.self.now c.args.group c.args.plane c.self.view_is w.if-plane-self.true
     ]
 
 pub returns : goal.returns

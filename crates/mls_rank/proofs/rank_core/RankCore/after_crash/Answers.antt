@@ -8,6 +8,6 @@ pub returns : goal.returns
 returns g c = λ history e crashed st. record {
   counts = st.counts ∙ counts_back c.args.self.now.shape c.args.self.now.rank history e crashed;
   holds =
-    subst (KeepsRows c.args.self.now.shape c.args.self.now.rank (is_marked c.args.self.now.marks) (marked c.args.self.now.marks) (g.F.RowFold.stands c.args.self.now.fold))
+      subst (KeepsRows c.args.self.now.shape c.args.self.now.rank (is_marked c.args.self.now.marks) (marked c.args.self.now.marks) (g.F.RowFold.stands c.args.self.now.fold))
       (pieces_back c.args.self.now.shape c.args.self.now.rank history e crashed) st.holds;
 }

@@ -7,5 +7,5 @@ pub returns-clause-stands : goal.returns-clause-stands
 returns-clause-stands g c = record {
   counts = c.no_events.ensures ∙ counts_none c.args.shape.now c.args.rank;
   holds = holds_none c.args.shape.now c.args.rank (is_marked c.in_ok-marks.marks) (marked c.in_ok-marks.marks) (g.F.RowFold.stands c.in_ok-fold.fold)
-    c.in_ok-marks.ensures.empty c.in_ok-marks.ensures.none c.in_ok-fold.ensures.stands;
+      c.in_ok-marks.ensures.empty c.in_ok-marks.ensures.none c.in_ok-fold.ensures.stands;
 }

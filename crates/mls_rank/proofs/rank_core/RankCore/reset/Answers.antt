@@ -7,5 +7,5 @@ pub returns-clause-stands : goal.returns-clause-stands
 returns-clause-stands g c = record {
   counts = c.no_events-self.ensures ∙ counts_none c.args.self.now.shape c.args.self.now.rank;
   holds = holds_none c.args.self.now.shape c.args.self.now.rank (is_marked c.reset.new.self) (marked c.reset.new.self) (g.F.RowFold.stands c.reset-2.new.self)
-    c.reset.ensures.empty c.reset.ensures.none c.reset-2.ensures.stands;
+      c.reset.ensures.empty c.reset.ensures.none c.reset-2.ensures.stands;
 }

@@ -1,0 +1,9 @@
+pub mod Squares
+pub mod Rows
+pub mod Bounds
+pub mod Differences
+pub mod Covariances
+pub mod Columns
+pub mod Schwarz
+pub mod Parts
+pub mod Same

@@ -1,0 +1,30 @@
+-- The sums of a list of rows, side by side.
+use Rattle.std.specs.Prelude.{◌≡◌, ℕ, ◌+◌, ◌*◌, ◌<◌, List, length, sum_by, slice_index}
+use Rattle.std.specs.List.{AllByRecursion}
+
+-- a sample of a row: 0 is A, 1 is B, 2 + k is C^k
+abbrev pub sample : ℕ → List ℕ → ℕ
+sample j row = slice_index row j
+
+-- the sum of a column, and that of the products of two columns
+abbrev pub sum_of : ℕ → List (List ℕ) → ℕ
+sum_of j rows = sum_by (sample j) rows
+
+abbrev pub products_of : ℕ → ℕ → List (List ℕ) → ℕ
+products_of i j rows = sum_by (λ row. sample i row * sample j row) rows
+
+-- Four sums from a place on are those of C^k: of its samples, of their squares, and of their products with A and with B.
+pub record HoldsColumn (k : ℕ) (sums : List ℕ) (rows : List (List ℕ)) : Type 0 where
+  pub first : slice_index sums (4 + 4 * k) ≡ sum_of (2 + k) rows
+  pub second : slice_index sums (4 + 4 * k + 1) ≡ products_of (2 + k) (2 + k) rows
+  pub with_a : slice_index sums (4 + 4 * k + 2) ≡ products_of 0 (2 + k) rows
+  pub with_b : slice_index sums (4 + 4 * k + 3) ≡ products_of 1 (2 + k) rows
+
+-- The list holds the sums of rows of p + 2 samples: of A and of B, of their squares, and of each C^k.
+pub record HoldsSums (p : ℕ) (sums : List ℕ) (rows : List (List ℕ)) : Type 0 where
+  pub rows_in : AllByRecursion (λ row. length row ≡ p + 2) rows
+  pub a : slice_index sums 0 ≡ sum_of 0 rows
+  pub b : slice_index sums 1 ≡ sum_of 1 rows
+  pub aa : slice_index sums 2 ≡ products_of 0 0 rows
+  pub bb : slice_index sums 3 ≡ products_of 1 1 rows
+  pub columns : (k : ℕ) → k < p → HoldsColumn k sums rows

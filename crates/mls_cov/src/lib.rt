@@ -1,0 +1,11 @@
+//! Sums over rows of samples, and the covariances and variances that are read from them. No call takes memory.
+#![tactic(auto)]
+
+pub mod laws;
+pub mod martinez;
+pub mod ranges;
+pub mod sums;
+#[cfg(test)]
+mod tests;
+
+pub use martinez::{IndexParts, Martinez, Sum};

@@ -1,0 +1,5 @@
+pub mod Loop
+pub mod LaneLemmas
+pub mod Counting
+pub mod Tables
+pub mod Entries

@@ -1,0 +1,4 @@
+use Rattle.mls_tape.proofs.tape.Tape.lane_kind.Goals as goal
+
+pub returns : goal.returns
+returns c = λ l there. (c.entry.ensures l there).kind

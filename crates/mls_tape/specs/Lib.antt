@@ -1,0 +1,4 @@
+pub mod Reading
+pub mod Scans
+pub mod Tapes
+pub mod Events

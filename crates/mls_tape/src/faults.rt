@@ -1,0 +1,40 @@
+//! Why bytes are no tape.
+
+ghost use Rattle.std.specs.Prelude.{◌≡◌};
+ghost use Rattle.mls_tape.specs.declared.faults.TapeFault.TheVariants.{Memory};
+
+use mls_base::faults::NoMemory;
+use mls_model::lanes::TapeWhy;
+use std::alloc::{AllocError, AllocFailed};
+
+/// Why a tape could not be read.
+#[derive(Debug, Drop)]
+pub enum TapeFault {
+    /// The first fault from left to right, with the offset where it stands.
+    Bad { at: u64, why: TapeWhy },
+    Memory,
+}
+
+impl From<AllocError> for TapeFault {
+    ghost from_gives = { λ _ e. e ≡ Memory };
+
+    fn from(_e: AllocError) -> TapeFault {
+        TapeFault::Memory
+    }
+}
+
+impl<T: Drop> From<AllocFailed<T>> for TapeFault {
+    ghost from_gives = { λ _ e. e ≡ Memory };
+
+    fn from(_e: AllocFailed<T>) -> TapeFault {
+        TapeFault::Memory
+    }
+}
+
+impl From<NoMemory> for TapeFault {
+    ghost from_gives = { λ _ e. e ≡ Memory };
+
+    fn from(_e: NoMemory) -> TapeFault {
+        TapeFault::Memory
+    }
+}

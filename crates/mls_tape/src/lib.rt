@@ -1,0 +1,14 @@
+//! Tapes of lanes, the events of a lane, and schedules of them.
+#![tactic(auto)]
+
+pub mod decoded;
+pub mod faults;
+mod part;
+mod scanning;
+mod table;
+pub mod tape;
+
+pub use decoded::{Decoded, Lanes};
+pub use faults::TapeFault;
+pub use mls_model::lanes::{LaneEnd, LaneKind, LaneLine, SchedWhy, TapeWhy};
+pub use tape::Tape;
