@@ -48,3 +48,7 @@ third_words top n = joined (codes "third " ∷ signed_decimal top ∷ codes "/" 
 -- the number of fields
 unfoldable pub fields_said : ℕ → List ℕ
 fields_said fields = joined (codes " fields " ∷ decimal fields ∷ [])
+
+-- the last line
+unfoldable pub end_words : List ℕ
+end_words = codes "end\n"

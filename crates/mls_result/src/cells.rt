@@ -1,19 +1,27 @@
 //! What is said of a cell, from the sums that a rank keeps of it.
 
-ghost use Rattle.std.specs.Prelude.{◌≡◌, ℕ, ◌<◌, ◌++◌, [], map};
-ghost use Rattle.mls_model.specs.Studies.{planes};
+ghost use Rattle.std.specs.Prelude.{◌≡◌, ℕ, ◌<◌, ◌≤◌, ◌++◌, List, [], map};
+ghost use Rattle.mls_model.specs.Studies.{planes, plane_of};
 ghost use Rattle.mls_model.specs.Blocks.{block, width};
 ghost use Rattle.mls_model.specs.Samples.{unshifted};
 ghost use Rattle.mls_model.specs.Standing.{Table};
 ghost use Rattle.mls_model.specs.Statistics.{outputs, variance_top, third_top};
-ghost use Rattle.mls_model.specs.ResultText.{power_line, variance_line, third_line};
+ghost use Rattle.mls_model.specs.ResultText.{power_line, variance_line, third_line, power_lines, cell_text};
+ghost use Rattle.mls_model.specs.AcceptedRows.{rows};
+ghost use Rattle.mls_model.specs.Histories.{Event};
+ghost use Rattle.mls_rank.specs.Cores.{sizes_of, rank_of as core_rank};
+ghost use Rattle.mls_rank.specs.Standing.{StandsFor as Stands};
+ghost use Rattle.mls_result.specs.Histories.{pieces_of, ShowsPowerAlone};
 ghost use Rattle.mls_field.specs.Stands.{shape_of, rank_of, StandsFor};
 ghost use Rattle.mls_text.specs.Writing.{Writes};
 
+use crate::head::put_step;
 use crate::lines::{Moments, put_powers, put_third, put_variance};
 use mls_base::faults::Failed;
 use mls_base::outside::Sink;
 use mls_field::field::Field;
+use mls_rank::RankCore;
+use mls_study::{Statistic, Study};
 use mls_text::put_bytes;
 
 /// Writes the power lines of a cell without samples.
@@ -57,4 +65,47 @@ pub fn put_power_lines<O: Sink>(
     put_powers(out, &powers)?;
     put_variance(out, &moments, 2 * rows)?;
     put_third(out, &moments, 2 * rows)
+}
+
+/// Writes the power lines of a cell where the study shows them.
+fn put_power<O: Sink>(
+    out: &mut O,
+    study: &Study,
+    field: &Field,
+    step: u32,
+    cell: u32,
+) -> Result<(), Failed>
+    requires step_in { step < planes (shape_of field.now) }
+    requires cell_in { cell < width (block (shape_of field.now) (rank_of field.now)) }
+    ensures { (t : Table) → StandsFor field.now t → Writes result (power_lines study.now (map (map (unshifted (shape_of field.now).signed)) (t step cell))) (O.told out.old) (O.told out.new) (O.faults out.old) (O.faults out.new) }
+{
+    if study.shows(Statistic::Power) {
+        return put_power_lines(out, field, step, cell);
+    }
+    Ok(())
+}
+
+/// Writes all that is said of a cell of a rank's block, for a study that shows power alone.
+pub fn put_cell<O: Sink>(
+    out: &mut O,
+    study: &Study,
+    core: &RankCore<Field>,
+    step: u32,
+    field: u32,
+    cell: u32,
+) -> Result<(), Failed>
+    requires sizes { sizes_of core.now ≡ study.now.sizes }
+    requires step_in { step < study.now.sizes.steps }
+    requires field_in { field < study.now.sizes.fields }
+    requires first { (block study.now.sizes (core_rank core.now)).first ≤ cell }
+    requires end { cell < (block study.now.sizes (core_rank core.now)).end }
+    requires alone { ShowsPowerAlone study.now }
+    ensures { (history : List Event) → Stands core.now history → Writes result (cell_text study.now step field cell (rows study.now.sizes (core_rank core.now) (plane_of study.now.sizes step field) cell (pieces_of study.now.sizes (core_rank core.now) history))) (O.told out.old) (O.told out.new) (O.faults out.old) (O.faults out.new) }
+{
+    let shape = core.shape();
+    let plane = shape.plane(step, field);
+    let place = cell - shape.block(core.rank()).first;
+    let sums = core.folded();
+    put_step(out, study, step, field, cell, sums.rows(plane))?;
+    put_power(out, study, sums, plane, place)
 }

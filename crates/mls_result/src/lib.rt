@@ -1,7 +1,12 @@
-//! The result text: what a study's ranks hold, printed.
+//! The result text: what a study's ranks hold, printed; and what the programs answer.
 #![tactic(auto)]
 
-pub mod cells;
-pub mod head;
-pub mod lines;
-pub mod ranks;
+mod cells;
+mod fault;
+mod head;
+mod lines;
+mod ranks;
+mod status;
+
+pub use fault::FoldFault;
+pub use status::{FileRole, Part, Status};

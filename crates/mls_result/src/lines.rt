@@ -92,7 +92,7 @@ fn put_place<O: Sink>(out: &mut O, words: &[u8], at: u64) -> Result<(), Failed>
 
 /// Ends a line.
 #[tactic(auto, unfolding(crate::specs::Words::line_end))]
-pub(crate) fn put_line_end<O: Sink>(out: &mut O) -> Result<(), Failed>
+pub fn put_line_end<O: Sink>(out: &mut O) -> Result<(), Failed>
     ensures { Writes result line_end (O.told out.old) (O.told out.new) (O.faults out.old) (O.faults out.new) }
 {
     put_bytes(out, b"\n")

@@ -1,0 +1,36 @@
+-- The text of a study from the histories of its ranks.
+use Rattle.std.specs.Prelude.{◌≡◌, ℕ, Bool, false, List, [], map, ℤ, Option, Some, None}
+use Rattle.mls_model.specs.declared.lanes.LaneLine.{LaneLine}
+use Rattle.mls_model.specs.declared.outcomes.Counts.{Counts}
+use Rattle.mls_model.specs.declared.studies.Statistic.TheVariants.{Extrema, Exceed, Sobol}
+use Rattle.mls_model.specs.Numbers.{below}
+use Rattle.mls_model.specs.Studies.{Sizes, Study, shows}
+use Rattle.mls_model.specs.Blocks.{rank_of}
+use Rattle.mls_model.specs.Frames.{Piece}
+use Rattle.mls_model.specs.Histories.{Event}
+use Rattle.mls_model.specs.Survival.{surviving}
+use Rattle.mls_model.specs.Fitting.{fitting}
+use Rattle.mls_model.specs.Outcomes.{counts}
+use Rattle.mls_model.specs.AcceptedRows.{rows}
+use Rattle.mls_model.specs.ResultText.{text_of}
+
+-- the fitting pieces that survive in a rank's history
+abbrev pub pieces_of : Sizes → ℕ → List Event → List Piece
+pieces_of s rank history = fitting s rank (surviving history)
+
+-- the rows of a plane and cell, at the rank whose block holds the cell
+abbrev pub history_rows : Sizes → (ℕ → List Event) → ℕ → ℕ → List (List ℤ)
+history_rows s histories plane x = elim (rank_of s x) [ None ↦ [] | Some rank ↦ rows s rank plane x (pieces_of s rank (histories rank)) ]
+
+abbrev pub history_counts : Sizes → (ℕ → List Event) → List Counts
+history_counts s histories = map (λ rank. counts s rank (surviving (histories rank))) (below s.ranks)
+
+-- the result text, where each rank has such a history
+unfoldable pub history_text : Study → (ℕ → List Event) → List LaneLine → List ℕ
+history_text study histories lines = text_of study (history_counts study.sizes histories) lines (history_rows study.sizes histories)
+
+-- the study shows power and nothing else
+pub record ShowsPowerAlone (study : Study) : Type 0 where
+  pub no_extrema : shows study Extrema ≡ false
+  pub no_exceed : shows study Exceed ≡ false
+  pub no_indices : shows study Sobol ≡ false

@@ -1,0 +1,16 @@
+-- The exit numbers of the programs.
+use Rattle.std.specs.Prelude.{ℕ}
+use Rattle.mls_result.specs.declared.status.Status.{Status}
+use Rattle.mls_result.specs.declared.status.Status.TheVariants as status
+
+abbrev pub number_of : Status → ℕ
+number_of status.Done = 0
+number_of status.Usage = 1
+number_of (status.Study fault) = 2
+number_of (status.Tape at why) = 3
+number_of (status.Schedule line why) = 4
+number_of status.ReadFault = 5
+number_of status.WriteFault = 6
+number_of status.Memory = 9
+number_of (status.NotBuilt part) = 10
+number_of (status.TooLong file) = 12

@@ -1,0 +1,142 @@
+//! What the programs answer.
+
+use mls_study::StudyFault;
+use mls_tape::{SchedWhy, TapeWhy};
+use std::fmt;
+use thiserror::Error;
+
+/// What a file is to a command.
+#[derive(Clone, Copy, Debug, PartialEq, Eq)]
+pub enum FileRole {
+    Study,
+    Tape,
+    Schedule,
+    Events,
+    Checkpoint,
+}
+
+/// A part of the program that is not built yet.
+#[derive(Clone, Copy, Debug, PartialEq, Eq)]
+pub enum Part {
+    /// A command other than `fold`.
+    Command,
+    /// `fold` with a schedule.
+    Schedule,
+    /// A study with more than one rank.
+    Ranks,
+    /// A study with more than one client.
+    Clients,
+    /// A study that shows other statistics than `power`.
+    Statistics,
+    /// A tape with a save or a crash on a control lane.
+    Control,
+}
+
+/// What a command answers. The text of a status is what the program prints on standard error after its name.
+#[derive(Debug, Drop, Error)]
+pub enum Status {
+    /// The command was carried out and all its output was written.
+    #[error("done")]
+    Done,
+    /// The words are no command.
+    #[error("usage: melissa fold STUDY TAPE [SCHEDULE] | design STUDY | trial STUDY NUMBER [TAPE SCHEDULE] | watch STUDY EVENTS | bins STUDY TAPE [SCHEDULE] | export STUDY PREFIX | resume STUDY OLD PREFIX TAPE [SCHEDULE]")]
+    Usage,
+    /// The study's bytes are refused.
+    #[error("{0}")]
+    Study(StudyFault),
+    /// The tape's bytes are refused at a place.
+    #[error("tape: {} at {at}", TapeText(*.why))]
+    Tape { at: u64, why: TapeWhy },
+    /// The schedule's bytes are refused at a line, counted from 1.
+    #[error("schedule: {} in line {line}", ScheduleText(*.why))]
+    Schedule { line: u32, why: SchedWhy },
+    /// A file could not be read.
+    #[error("cannot read")]
+    ReadFault,
+    /// Output could not be written.
+    #[error("cannot write")]
+    WriteFault,
+    /// Memory ran out.
+    #[error("out of memory")]
+    Memory,
+    /// The command, the study or the tape asks for what is not built yet.
+    #[error("not built yet")]
+    NotBuilt { part: Part },
+    /// A file has more bytes than it may have.
+    #[error("file too long: {}", RoleText(*.file))]
+    TooLong { file: FileRole },
+}
+
+impl Status {
+    ghost use Rattle.std.specs.Prelude.{◌≡◌};
+    ghost use Rattle.mls_result.specs.Statuses.{number_of};
+
+    /// The exit status of a program.
+    pub fn number(&self) -> u8
+        ensures { result ≡ number_of self.now }
+    {
+        match self {
+            Status::Done => 0,
+            Status::Usage => 1,
+            Status::Study(_) => 2,
+            Status::Tape { .. } => 3,
+            Status::Schedule { .. } => 4,
+            Status::ReadFault => 5,
+            Status::WriteFault => 6,
+            Status::Memory => 9,
+            Status::NotBuilt { .. } => 10,
+            Status::TooLong { .. } => 12,
+        }
+    }
+}
+
+/// The reason of a refused tape, to be printed.
+#[derive(Clone, Copy, Debug)]
+struct TapeText(TapeWhy);
+
+impl fmt::Display for TapeText {
+    fn fmt<W: fmt::Write>(&self, f: &mut fmt::Formatter<W>) -> fmt::Result {
+        f.write_str(match self.0 {
+            TapeWhy::Cut => "cut",
+            TapeWhy::Magic => "magic",
+            TapeWhy::Version => "version",
+            TapeWhy::Samples => "samples",
+            TapeWhy::TooManyLanes => "too-many-lanes",
+            TapeWhy::LaneKind => "lane-kind",
+            TapeWhy::LaneRank => "lane-rank",
+            TapeWhy::Trailing => "trailing",
+            TapeWhy::TooManyEvents => "too-many-events",
+        })
+    }
+}
+
+/// The reason of a refused schedule, to be printed.
+#[derive(Clone, Copy, Debug)]
+struct ScheduleText(SchedWhy);
+
+impl fmt::Display for ScheduleText {
+    fn fmt<W: fmt::Write>(&self, f: &mut fmt::Formatter<W>) -> fmt::Result {
+        f.write_str(match self.0 {
+            SchedWhy::Form => "form",
+            SchedWhy::Rank => "rank",
+            SchedWhy::Lane => "lane",
+            SchedWhy::Count => "count",
+        })
+    }
+}
+
+/// What a file is, to be printed.
+#[derive(Clone, Copy, Debug)]
+struct RoleText(FileRole);
+
+impl fmt::Display for RoleText {
+    fn fmt<W: fmt::Write>(&self, f: &mut fmt::Formatter<W>) -> fmt::Result {
+        f.write_str(match self.0 {
+            FileRole::Study => "study",
+            FileRole::Tape => "tape",
+            FileRole::Schedule => "schedule",
+            FileRole::Events => "events",
+            FileRole::Checkpoint => "checkpoint",
+        })
+    }
+}
