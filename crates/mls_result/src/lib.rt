@@ -7,6 +7,7 @@ mod head;
 mod lines;
 mod ranks;
 mod status;
+mod text;
 
 pub use fault::FoldFault;
 pub use status::{FileRole, Part, Status};
