@@ -5,3 +5,4 @@ pub mod Powers
 pub mod RankLines
 pub mod Splits
 pub mod Texts
+pub mod Whole

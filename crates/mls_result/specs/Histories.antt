@@ -1,5 +1,5 @@
 -- The text of a study from the histories of its ranks.
-use Rattle.std.specs.Prelude.{◌≡◌, ℕ, Bool, false, List, [], map, ℤ, Option, Some, None}
+use Rattle.std.specs.Prelude.{◌≡◌, ℕ, ◌<◌, Bool, false, List, [], length, get_or, map, ℤ, Option, Some, None}
 use Rattle.mls_model.specs.declared.lanes.LaneLine.{LaneLine}
 use Rattle.mls_model.specs.declared.outcomes.Counts.{Counts}
 use Rattle.mls_model.specs.declared.studies.Statistic.TheVariants.{Extrema, Exceed, Sobol}
@@ -13,6 +13,10 @@ use Rattle.mls_model.specs.Fitting.{fitting}
 use Rattle.mls_model.specs.Outcomes.{counts}
 use Rattle.mls_model.specs.AcceptedRows.{rows}
 use Rattle.mls_model.specs.ResultText.{text_of}
+use Rattle.mls_field.specs.declared.fold.RowFold.{Ghosts}
+use Rattle.mls_rank.specs.declared.rank_core.RankCore.{RankCore}
+use Rattle.mls_rank.specs.Cores.{sizes_of, rank_of as core_rank}
+use Rattle.mls_rank.specs.Standing.{StandsFor}
 
 -- the fitting pieces that survive in a rank's history
 abbrev pub pieces_of : Sizes → ℕ → List Event → List Piece
@@ -34,3 +38,13 @@ pub record ShowsPowerAlone (study : Study) : Type 0 where
   pub no_extrema : shows study Extrema ≡ false
   pub no_exceed : shows study Exceed ≡ false
   pub no_indices : shows study Sobol ≡ false
+
+-- One core for each rank of a study, in order.
+pub record AreCores {F : Type 0} {T : Ghosts F} (s : Sizes) (cores : List (RankCore F T)) : Type 0 where
+  pub count : length cores ≡ s.ranks
+  pub sizes : (rank : ℕ) (d : RankCore F T) → rank < length cores → sizes_of (get_or cores rank d) ≡ s
+  pub ranks : (rank : ℕ) (d : RankCore F T) → rank < length cores → core_rank (get_or cores rank d) ≡ rank
+
+-- Each core stands for its rank's history.
+pub record AllStand {F : Type 0} {T : Ghosts F} (cores : List (RankCore F T)) (histories : ℕ → List Event) : Type 0 where
+  pub each : (rank : ℕ) (d : RankCore F T) → rank < length cores → StandsFor (get_or cores rank d) (histories rank)

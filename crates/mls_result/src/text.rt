@@ -6,7 +6,7 @@ ghost use Rattle.mls_model.specs.ResultText.{field_text, step_text, cells_text};
 ghost use Rattle.mls_rank.specs.Cores.{sizes_of, rank_of, counts_of};
 ghost use Rattle.mls_rank.specs.Standing.{StandsFor};
 ghost use Rattle.mls_text.specs.Writing.{Writes};
-ghost use Rattle.mls_result.specs.Histories.{history_rows, history_text, ShowsPowerAlone};
+ghost use Rattle.mls_result.specs.Histories.{history_rows, history_text, ShowsPowerAlone, AreCores, AllStand};
 ghost use Rattle.mls_result.specs.Words.{end_words};
 
 use crate::cells::put_cell;
@@ -92,4 +92,34 @@ fn put_steps<O: Sink>(
         put_fields(out, study, core, step, fields)?;
     }
     Ok(())
+}
+
+/// Writes the last line.
+#[tactic(auto, unfolding(crate::specs::Words::end_words))]
+fn put_end<O: Sink>(out: &mut O) -> Result<(), Failed>
+    ensures { Writes result end_words (O.told out.old) (O.told out.new) (O.faults out.old) (O.faults out.new) }
+{
+    put_bytes(out, b"end\n")
+}
+
+/// Writes the result text of a study of one rank that shows power alone, from the ranks' cores, one for each rank in
+/// order, and the lines of its lanes. It takes no memory. After `Failed` a front of the text went out.
+pub fn write_result<O: Sink>(
+    study: &Study,
+    cores: &[RankCore<Field>],
+    lanes: &[LaneLine],
+    out: &mut O,
+) -> Result<(), Failed>
+    requires cores { AreCores study.now.sizes cores.now }
+    requires one_rank { study.now.sizes.ranks ≡ 1 }
+    requires alone { ShowsPowerAlone study.now }
+    ensures { (histories : ℕ → List Event) → AllStand cores.now histories → Writes result (history_text study.now histories lanes.now) (O.told out.old) (O.told out.new) (O.faults out.old) (O.faults out.new) }
+{
+    let core = &cores[0];
+    let shape = core.shape();
+    put_head(out, study)?;
+    put_ranks(out, cores)?;
+    put_lanes(out, lanes)?;
+    put_steps(out, study, core, shape.steps())?;
+    put_end(out)
 }
