@@ -1,2 +1,5 @@
-pub mod Calm
+pub mod CalmEvents
+pub mod CalmWalk
 pub mod Orders
+pub mod Taking
+pub mod Folds

@@ -1,6 +1,6 @@
 //! All ranks, and the text of their cores.
 
-ghost use Rattle.std.specs.Prelude.{◌≡◌, ℕ, ◌<◌, ◌≤◌, ◌+◌, List, [], length, get_or, vec_len, true, IfOk, Result, Ok, Err};
+ghost use Rattle.std.specs.Prelude.{◌≡◌, ℕ, ◌<◌, ◌≤◌, ◌+◌, List, [], length, get_or, vec_len, true, IfOk, IfErr};
 ghost use Rattle.std.specs.List.{enumerate_from};
 ghost use Rattle.mls_model.specs.Schedules.{is_legal};
 ghost use Rattle.mls_model.specs.ResultText.{result_text, lines_of};
@@ -95,4 +95,37 @@ fn write_cores<O: Sink>(
         Ok(()) => return Ok(()),
         Err(_) => return Err(FoldFault::WriteFault),
     }
+}
+
+/// Folds a tape under a schedule and writes the result text: each rank runs over its whole list, in rising number, and then
+/// the text is written. Each keeper comes back in its place; none is called, since the tape holds no save and no crash.
+///
+/// This form is for studies of one rank and one client that show power alone.
+pub fn fold<K: Keeper + Drop, O: Sink>(
+    alloc: Global,
+    study: &Study,
+    tape: &Tape,
+    schedule: &Schedule,
+    keepers: Vec<K>,
+    out: &mut O,
+) -> (Result<(), FoldFault>, Vec<K>)
+    requires keepers { vec_len keepers ≡ 64 }
+    requires one_rank { study.now.sizes.ranks ≡ 1 }
+    requires one_client { study.now.sizes.clients ≡ 1 }
+    requires alone { ShowsPowerAlone study.now }
+    requires legal { is_legal study.now.sizes.ranks tape.now.lanes schedule.now ≡ true }
+    requires calm { is_calm tape.now.lanes ≡ true }
+    ensures text { Folds result.0 (result_text study.now tape.now.lanes schedule.now) (O.told out.old) (O.told out.new) (O.faults out.old) (O.faults out.new) }
+    ensures keepers { result.1 ≡ keepers }
+{
+    let lines = match lines_of(alloc, tape) {
+        Ok(lines) => lines,
+        Err(_) => return (Err(FoldFault::Memory), keepers),
+    };
+    let cores = match run_ranks(alloc, study, tape, schedule) {
+        Ok(cores) => cores,
+        Err(_) => return (Err(FoldFault::Memory), keepers),
+    };
+    let answer = write_cores(study, tape, schedule, cores.as_slice(), lines.as_slice(), out);
+    (answer, keepers)
 }

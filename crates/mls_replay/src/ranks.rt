@@ -45,7 +45,7 @@ fn take_event<F: RowFold>(
 }
 
 /// The core of a rank after the events of its list: for the i-th time that a lane stands, event i of it.
-pub(crate) fn run_rank<F: RowFold>(
+pub fn run_rank<F: RowFold>(
     alloc: Global,
     shape: &Shape,
     tape: &Tape,

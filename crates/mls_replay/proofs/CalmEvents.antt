@@ -35,7 +35,7 @@ calm_of Control frames i frame calm there =
     let b = both (not (is_save_frame frame)) (not (is_crash_frame frame)) (calm_frame frames i frame calm there) in
     record { no_save = negated (is_save_frame frame) b.0; no_crash = negated (is_crash_frame frame) b.1 }
 
-mapped : (kind : LaneKind) (o : Option Frame) (e : Event) → option_map (λ frame. let r : Event = record { kind = kind; frame = frame } in r) o ≡ Some e → (frame : Frame) × (o ≡ Some frame) × (let r : Event = record { kind = kind; frame = frame } in r ≡ e)
+pub mapped : (kind : LaneKind) (o : Option Frame) (e : Event) → option_map (λ frame. let r : Event = record { kind = kind; frame = frame } in r) o ≡ Some e → (frame : Frame) × (o ≡ Some frame) × (let r : Event = record { kind = kind; frame = frame } in r ≡ e)
 mapped kind None e there = cc
 mapped kind (Some frame) e there = (frame, refl, cc)
 
