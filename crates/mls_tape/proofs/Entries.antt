@@ -109,10 +109,10 @@ starts_at lanes starts bytes k n entry all lt is =
     record {
       within = omega (arith, first, here.0);
       seen = λ l f on at.
-        let found_l = entry_found 0 lanes k l entry on in
-        let first_l : entry.first ≡ found_l.0 = ap (λ (x : Entry). x.first) (is ∙ found_l.1) in
-        let here_l = found_l.2 starts bytes all n f at in
-        subst (λ (m : ℕ). sight (drop (get_or starts (m + n) 0) bytes) ≡ whole f (length (spelling f))) (sym first_l) here_l.1;
+          let found_l = entry_found 0 lanes k l entry on in
+          let first_l : entry.first ≡ found_l.0 = ap (λ (x : Entry). x.first) (is ∙ found_l.1) in
+          let here_l = found_l.2 starts bytes all n f at in
+          subst (λ (m : ℕ). sight (drop (get_or starts (m + n) 0) bytes) ≡ whole f (length (spelling f))) (sym first_l) here_l.1;
     }
 
 more_no_whole : (f : Frame) (n : ℕ) → more ≡ whole f n → ⊥

@@ -3,3 +3,4 @@ pub mod LaneLemmas
 pub mod Counting
 pub mod Tables
 pub mod Entries
+pub mod Plain
