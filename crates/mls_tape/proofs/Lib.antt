@@ -4,3 +4,4 @@ pub mod Counting
 pub mod Tables
 pub mod Entries
 pub mod Plain
+pub mod Complete

@@ -3,6 +3,7 @@
 
 pub mod decoded;
 pub mod faults;
+pub mod laws;
 mod part;
 mod scanning;
 pub mod schedule;

@@ -19,10 +19,10 @@ loop-lane-preserved c =
     let rank : c.lane_rank.result ≡ there.0.rank = c.lane_rank.ensures there.0 there.1 in
     let rest = shares c.args.rank (c.loop-lane.lane + 1) (drop (c.loop-lane.lane + 1) lanes) in
     elim c.if-lane_rank-rank.branch [
-      then-lane_rank-rank+in_ok-add_lane w ↦
-        let taken = share_taken c.args.rank c.loop-lane.lane there.0 w.events.result (sym rank ∙ w.if-lane_rank-rank.true) (w.events.ensures ∙ count_of lanes c.loop-lane.lane there.0 there.1) in
-        rw (w.order-is, w.in_ok-add_lane.ensures) (subst (λ (xs : List ℕ). (c.loop-lane.order.items ++ xs) ++ rest ≡ total) taken step)
-    | else-lane_rank-rank w ↦
-        let left : c.loop-lane.order.items ++ share c.args.rank (c.loop-lane.lane, there.0) ≡ c.loop-lane.order.items = ap (λ (xs : List ℕ). c.loop-lane.order.items ++ xs) (share_left c.args.rank c.loop-lane.lane there.0 (λ e. w.if-lane_rank-rank.false (rank ∙ e))) ∙ append-nil c.loop-lane.order.items in
-        rw w.order-is (subst (λ (xs : List ℕ). xs ++ rest ≡ total) left step)
+      | then-lane_rank-rank+in_ok-add_lane w ↦
+          let taken = share_taken c.args.rank c.loop-lane.lane there.0 w.events.result (sym rank ∙ w.if-lane_rank-rank.true) (w.events.ensures ∙ count_of lanes c.loop-lane.lane there.0 there.1) in
+          rw (w.order-is, w.in_ok-add_lane.ensures) (subst (λ (xs : List ℕ). (c.loop-lane.order.items ++ xs) ++ rest ≡ total) taken step)
+      | else-lane_rank-rank w ↦
+          let left : c.loop-lane.order.items ++ share c.args.rank (c.loop-lane.lane, there.0) ≡ c.loop-lane.order.items = ap (λ (xs : List ℕ). c.loop-lane.order.items ++ xs) (share_left c.args.rank c.loop-lane.lane there.0 (λ e. w.if-lane_rank-rank.false (rank ∙ e))) ∙ append-nil c.loop-lane.order.items in
+          rw w.order-is (subst (λ (xs : List ℕ). xs ++ rest ≡ total) left step)
     ]
