@@ -37,23 +37,45 @@ fn vector_is_put(rt: HostRuntime) -> Result<(), Fail> {
 }
 
 #[test]
-fn vector_is_seen(rt: HostRuntime) {
-    match view(&VECTOR) {
-        Seen::Whole {
-            frame: FrameView::Piece(piece),
-            used,
-        } => {
-            assert_eq!(rt; used, 35);
-            assert_eq!(rt; piece.life(), 1);
-            assert_eq!(rt; piece.group(), 0);
-            assert_eq!(rt; piece.step(), 0);
-            assert_eq!(rt; piece.client(), 0);
-            assert_eq!(rt; piece.rows(), 3);
-            assert_eq!(rt; piece.first(), 0);
-            assert_eq!(rt; piece.count(), 1);
+fn vector_is_seen(rt: HostRuntime) -> Result<(), Fail> {
+    let Seen::Whole { frame, used } = view(&VECTOR) else {
+        return Err("the vector is a frame")?;
+    };
+    assert_eq!(rt; used, 35);
+    let FrameView::Piece(piece) = frame else {
+        return Err("the vector is a piece")?;
+    };
+    assert_eq!(rt; piece.life(), 1);
+    assert_eq!(rt; piece.group(), 0);
+    assert_eq!(rt; piece.step(), 0);
+    assert_eq!(rt; piece.client(), 0);
+    assert_eq!(rt; piece.rows(), 3);
+    assert_eq!(rt; piece.first(), 0);
+    assert_eq!(rt; piece.count(), 1);
+    Ok(())
+}
+
+/// The sum of the samples of a block, by its places.
+fn total<R: Rows>(rows: &R) -> u64 {
+    let mut sum = 0u64;
+    for row in 0..rows.rows() {
+        for cell in 0..rows.cells() {
+            sum = sum.wrapping_add(rows.at(row, cell) as u64);
         }
-        _ => assert!(rt; false),
     }
+    sum
+}
+
+#[test]
+fn samples_are_lent(rt: HostRuntime) -> Result<(), Fail> {
+    let Seen::Whole { frame, .. } = view(&VECTOR) else {
+        return Err("the vector is a frame")?;
+    };
+    let FrameView::Piece(piece) = frame else {
+        return Err("the vector is a piece")?;
+    };
+    assert_eq!(rt; total(&piece), 7);
+    Ok(())
 }
 
 /// A word for what is seen: 0 a frame, 1 too little, 2 a bad kind, 3 a bad length.

@@ -15,3 +15,6 @@ pub use faults::TapeFault;
 pub use mls_model::lanes::{LaneEnd, LaneKind, LaneLine, SchedWhy, TapeWhy};
 pub use schedule::Schedule;
 pub use tape::Tape;
+
+#[cfg(test)]
+mod tests;
