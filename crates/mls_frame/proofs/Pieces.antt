@@ -1,11 +1,11 @@
 -- The piece with given fields.
-use Rattle.std.proofs.Common.{◌≡◌, ℕ, zero, suc, ◌+◌, ◌*◌, ◌^◌, ◌<◌, ◌≤◌, List, [], ◌∷◌, ◌++◌, length, get_or, take, drop, refl, sym, ap, ◌∙◌, arith, add-zero}
-use Rattle.std.specs.Int.{w16, w32, byte_len, from_be_bytes, to_be_bytes}
+use Rattle.std.proofs.Common.{◌≡◌, ℕ, zero, suc, ◌+◌, ◌*◌, ◌^◌, ◌<◌, ◌≤◌, List, [], ◌∷◌, length, get_or, take, drop, refl, ap, ◌∙◌, arith}
+use Rattle.std.specs.Int.{w16, w32, from_be_bytes}
 use Rattle.std.specs.List.{flat_map, AllByRecursion}
-use Rattle.std.proofs.lemmas.List.{length-append, length-take, length-drop, take-take, drop-drop, drop-take}
+use Rattle.std.proofs.lemmas.List.{length-append, take-take, drop-drop, drop-take}
 use Rattle.mls_model.specs.Frames.{number, u16, Piece, piece, body, IsPiece, longest_body, samples_in, piece_in, piece_head}
 use Rattle.mls_frame.specs.Views.{AreBytes}
-use Rattle.mls_frame.proofs.Places.{AreBytes-drop, number_16-below, number_32-below, Stands, both_stand, number_16_stands, number_32_stands}
+use Rattle.mls_frame.proofs.Places.{AreBytes-drop, number_16-below, number_32-below}
 
 pub samples_in-length : (n : ℕ) (bytes : List ℕ) → length (samples_in n bytes) ≡ n
 unfolding samples_in

@@ -1,11 +1,11 @@
 -- A longer input changes no refusal.
-use Rattle.std.proofs.Common.{◌≡◌, ℕ, zero, suc, ◌+◌, ◌*◌, ◌<◌, ◌≤◌, Bool, true, false, cond, ltb, eqb, not, ◌||◌, ◌%◌, List, [], ◌∷◌, ◌++◌, length, take, drop, refl, sym, ap, ◌∙◌, arith, inl, inr}
+use Rattle.std.proofs.Common.{◌≡◌, ℕ, ◌+◌, ◌*◌, ◌≤◌, Bool, true, false, cond, ltb, eqb, not, List, [], ◌∷◌, ◌++◌, length, drop, refl, sym, ap, ◌∙◌, arith}
 use Rattle.std.specs.Int.{w16, w32}
-use Rattle.std.proofs.lemmas.Bool.{cases_Bool, ltb-false, le-ltb}
+use Rattle.std.proofs.lemmas.Bool.{ltb-false, le-ltb}
 use Rattle.std.proofs.lemmas.List.{length-append, drop-append-le}
 use Rattle.mls_model.specs.declared.lanes.FrameFault.{FrameFault}
 use Rattle.mls_model.specs.declared.lanes.FrameFault.TheVariants.{BadKind, BadLength}
-use Rattle.mls_model.specs.Frames.{Frame, piece, Sight, whole, more, bad, number, piece_in, fixed_frame, fixed_length, fixed_sight, piece_sight, sized_sight, sight, is_no_length}
+use Rattle.mls_model.specs.Frames.{Frame, Sight, whole, more, bad, number, fixed_sight, piece_sight, sized_sight, sight, is_no_length}
 use Rattle.mls_frame.proofs.Places.{number-append}
 
 -- Of two answers, the second is a refusal where the first is.

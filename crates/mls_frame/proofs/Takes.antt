@@ -1,16 +1,14 @@
 -- What is seen is spelled so.
-use Rattle.std.proofs.Common.{◌≡◌, ℕ, zero, suc, ◌+◌, ◌*◌, ◌-◌, ◌^◌, ◌<◌, ◌≤◌, Bool, true, false, cond, ltb, eqb, not, ◌||◌, ◌%◌, List, [], ◌∷◌, ◌++◌, length, get_or, take, drop, refl, sym, ap, subst, ◌∙◌, arith, append_assoc, ◌⊎◌, inl, inr}
-use Rattle.std.specs.Int.{w16, w32, byte_len, from_be_bytes, to_be_bytes}
+use Rattle.std.proofs.Common.{◌≡◌, ℕ, zero, suc, ◌+◌, ◌*◌, ◌-◌, ◌≤◌, Bool, true, false, cond, ltb, eqb, not, ◌||◌, ◌%◌, List, [], ◌∷◌, ◌++◌, length, get_or, take, drop, refl, sym, ap, subst, ◌∙◌, arith, append_assoc, ◌⊎◌, inl, inr}
+use Rattle.std.specs.Int.{w16, w32, from_be_bytes}
 use Rattle.std.specs.List.{flat_map}
 use Rattle.std.proofs.lemmas.Bool.{ltb-false, eqb-true}
 use Rattle.std.proofs.lemmas.Bool.Decides.{nat_tests}
 use Rattle.std.proofs.lemmas.List.{length-append, length-take, length-drop, take-append-drop, drop-drop}
-use Rattle.std.proofs.lemmas.Nat.{be_bytes_4}
-use Rattle.mls_model.specs.declared.lanes.FrameFault.{FrameFault}
 use Rattle.mls_model.specs.declared.lanes.FrameFault.TheVariants.{BadKind, BadLength}
-use Rattle.mls_model.specs.Frames.{Frame, Piece, piece, beat, bye, save, crash, hello, welcome, refuse, IsFrame, IsPiece, Sight, whole, more, bad, number, u16, u32, body, spelling, piece_head, piece_in, samples_in, fixed_frame, fixed_length, fixed_sight, piece_sight, sized_sight, sight, longest_body, is_no_length}
+use Rattle.mls_model.specs.Frames.{Frame, piece, IsFrame, Sight, whole, more, bad, number, u16, u32, body, spelling, piece_head, piece_in, samples_in, fixed_frame, fixed_length, fixed_sight, piece_sight, sized_sight, sight, longest_body, is_no_length}
 use Rattle.mls_frame.specs.Views.{AreBytes}
-use Rattle.mls_frame.proofs.Places.{AreBytes-drop, AreBytes-take, number_16-below, number_32-below, Stands, both_stand, number_16_stands, number_32_stands, take-add}
+use Rattle.mls_frame.proofs.Places.{AreBytes-drop, number_16-below, number_32-below, Stands, both_stand, number_16_stands, number_32_stands, take-add}
 use Rattle.mls_frame.proofs.Pieces.{piece_in_is_piece}
 
 -- the fields give back the body behind its kind byte

@@ -1,8 +1,8 @@
 -- The laws of frames, from what is spelled and what is seen.
-use Rattle.std.proofs.Common.{◌≡◌, ℕ, ◌+◌, ◌≤◌, List, [], ◌∷◌, ◌++◌, length, take, drop, refl, sym, ap, subst, ◌∙◌, arith, append_assoc}
+use Rattle.std.proofs.Common.{◌≡◌, ℕ, ◌≤◌, List, [], ◌++◌, length, take, drop, sym, ap, ◌∙◌, arith, append_assoc}
 use Rattle.std.proofs.lemmas.List.{append-nil, append_cancel_left, length-append, take_at}
 use Rattle.mls_model.specs.declared.lanes.FrameFault.{FrameFault}
-use Rattle.mls_model.specs.Frames.{Frame, IsFrame, spelling, Sight, whole, more, bad, sight}
+use Rattle.mls_model.specs.Frames.{Frame, IsFrame, spelling, whole, more, bad, sight}
 use Rattle.mls_frame.specs.Views.{AreBytes}
 use Rattle.mls_frame.proofs.Again.{seen_again}
 use Rattle.mls_frame.proofs.Steady.{bad_stays}

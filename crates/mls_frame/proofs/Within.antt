@@ -1,7 +1,6 @@
 -- How many bytes a whole frame has.
-use Rattle.std.proofs.Common.{◌≡◌, ℕ, ◌+◌, ◌≤◌, List, length, sym, arith}
-use Rattle.mls_model.specs.Frames.{Frame, piece, beat, bye, save, crash, hello, welcome, refuse, body, spelling, Sight, whole, more, bad, sight}
-use Rattle.mls_frame.specs.declared.seeing.FrameView.{FrameView}
+use Rattle.std.proofs.Common.{◌≡◌, ℕ, ◌≤◌, List, length, sym, arith}
+use Rattle.mls_model.specs.Frames.{Frame, piece, beat, bye, save, crash, hello, welcome, refuse, body, spelling, sight}
 use Rattle.mls_frame.specs.declared.seeing.Seen.{Seen}
 use Rattle.mls_frame.specs.declared.seeing.Seen.TheVariants as seen
 use Rattle.mls_frame.specs.Views.{AreBytes, frame_of, sight_of, IsWithin}

@@ -14,3 +14,6 @@ pub use mls_model::lanes::FrameFault;
 pub use piece_view::PieceView;
 pub use putting::put;
 pub use seeing::{FrameView, Seen, view};
+
+#[cfg(test)]
+mod tests;

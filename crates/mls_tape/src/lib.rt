@@ -3,12 +3,18 @@
 
 pub mod decoded;
 pub mod faults;
+pub mod laws;
 mod part;
 mod scanning;
+pub mod schedule;
 mod table;
 pub mod tape;
 
 pub use decoded::{Decoded, Lanes};
 pub use faults::TapeFault;
 pub use mls_model::lanes::{LaneEnd, LaneKind, LaneLine, SchedWhy, TapeWhy};
+pub use schedule::Schedule;
 pub use tape::Tape;
+
+#[cfg(test)]
+mod tests;

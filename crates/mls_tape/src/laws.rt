@@ -1,0 +1,35 @@
+//! What holds of lanes and schedules.
+
+ghost use Rattle.std.specs.Prelude.{◌≡◌, ℕ, ◌<◌, true, List, length, Some};
+ghost use Rattle.std.specs.List.{AllByRecursion};
+ghost use Rattle.mls_model.specs.Numbers.{element};
+ghost use Rattle.mls_model.specs.Frames.{Frame};
+ghost use Rattle.mls_model.specs.Lanes.{Lane, AreLaneEvents, lane_frames, lane_rest};
+ghost use Rattle.mls_model.specs.Schedules.{is_legal_order, is_legal, is_complete, plain};
+ghost use Rattle.mls_frame.specs.Views.{AreBytes};
+
+/// A lane's bytes have one longest list of frames.
+pub fn lane_events_are_unique()
+    ensures { (bytes : List ℕ) (fs gs : List Frame) (rest others : List ℕ) → AreLaneEvents bytes fs rest →
+        AreLaneEvents bytes gs others → (fs ≡ gs) × (rest ≡ others) }
+{}
+
+/// What the front of the bytes is, again and again, gives that list.
+pub fn lane_events_are_found()
+    ensures { (bytes : List ℕ) → AreBytes bytes → AreLaneEvents bytes (lane_frames bytes) (lane_rest bytes) }
+{}
+
+/// The plain schedule is legal and complete.
+pub fn plain_schedule_is_complete()
+    ensures complete { (ranks : ℕ) (lanes : List Lane) → AllByRecursion (λ (lane : Lane). lane.rank < ranks) lanes →
+        is_complete ranks lanes (plain ranks lanes) ≡ true }
+    ensures legal { (ranks : ℕ) (lanes : List Lane) → is_legal ranks lanes (plain ranks lanes) ≡ true }
+{}
+
+/// A legal schedule has a legal list for each rank.
+pub fn legal_schedules_have_legal_orders()
+    ensures orders { (ranks : ℕ) (lanes : List Lane) (orders : List (List ℕ)) (rank : ℕ) (order : List ℕ) →
+        is_legal ranks lanes orders ≡ true → element orders rank ≡ Some order → is_legal_order lanes rank order ≡ true }
+    ensures count { (ranks : ℕ) (lanes : List Lane) (orders : List (List ℕ)) → is_legal ranks lanes orders ≡ true →
+        length orders ≡ ranks }
+{}

@@ -1,0 +1,89 @@
+//! Schedules: for each rank the order in which it takes its lanes' events.
+
+ghost use Rattle.std.specs.Prelude.{◌≡◌, ℕ, ◌<◌, ◌++◌, List, length, map, replicate, Some, IfOk, OnOk};
+ghost use Rattle.mls_model.specs.Numbers.{element};
+ghost use Rattle.mls_model.specs.Schedules.{plain, plain_order};
+
+use crate::tape::Tape;
+use mls_base::faults::NoMemory;
+use std::alloc::Global;
+use std::marker::Model;
+
+/// A schedule: a list of lanes for each rank. The i-th time (from 0) that a lane stands is its event i.
+#[derive(Drop)]
+pub struct Schedule {
+    lists: Vec<Vec<u32>>,
+}
+
+impl Model for Schedule {
+    ghost use Rattle.std.specs.Prelude.{ℕ, List, map};
+    ghost use Rattle.std.specs.Global.{Vec};
+
+    ghost Value = { List (List ℕ) };
+
+    ghost view = { λ s. map (λ (v : Vec ℕ). v.items) s.lists.items };
+}
+
+/// Adds a lane so many times.
+fn add_lane(order: &mut Vec<u32>, lane: u32, count: u32) -> Result<(), NoMemory>
+    ensures { OnOk result (order.new.items ≡ order.old.items ++ replicate count lane) }
+{
+    for _ in 0..count {
+        match order.push(lane) {
+            Ok(()) => {}
+            Err(_) => return Err(NoMemory),
+        }
+    }
+    Ok(())
+}
+
+/// A rank's lanes in rising number, each whole.
+fn plain_order(alloc: Global, tape: &Tape, rank: u32) -> Result<Vec<u32>, NoMemory>
+    ensures { IfOk result (λ v. v.items ≡ plain_order tape.now.lanes rank) }
+{
+    let mut order = Vec::new(alloc);
+    for lane in 0..tape.lane_count() {
+        if tape.lane_rank(lane) == rank {
+            add_lane(&mut order, lane, tape.events(lane))?;
+        }
+    }
+    Ok(order)
+}
+
+impl Schedule {
+    /// The schedule of these lists, one for each rank.
+    pub fn of(lists: Vec<Vec<u32>>) -> Schedule
+        ensures { result ≡ map (λ v. v.items) lists.items }
+    {
+        Schedule { lists }
+    }
+
+    /// The number of ranks that the schedule has a list for.
+    pub fn ranks(&self) -> usize
+        ensures { result ≡ length self.now }
+    {
+        self.lists.len()
+    }
+
+    /// The rank's lanes in the order in which it takes their events.
+    pub fn order(&self, rank: u32) -> &[u32]
+        requires { rank < length self.now }
+        ensures { element self.now rank ≡ Some result.now }
+    {
+        self.lists[rank as usize].as_slice()
+    }
+
+    /// The plain schedule: each rank's lanes in rising number, each whole.
+    pub fn plain(alloc: Global, tape: &Tape) -> Result<Schedule, NoMemory>
+        ensures { IfOk result (λ s. s ≡ plain tape.now.ranks tape.now.lanes) }
+    {
+        let mut lists = Vec::new(alloc);
+        for rank in 0..tape.ranks() {
+            match lists.push(plain_order(alloc, tape, rank)?) {
+                Ok(()) => {}
+                Err(_) => return Err(NoMemory),
+            }
+        }
+        Ok(Schedule { lists })
+    }
+}
