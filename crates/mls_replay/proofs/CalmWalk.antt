@@ -1,16 +1,11 @@
 -- Tests of a list's elements from a place on.
-use Rattle.std.proofs.Common.{◌≡◌, ℕ, zero, suc, ◌+◌, ◌≤◌, Bool, true, false, List, [], ◌∷◌, length, drop, Option, Some, None, refl, sym, ◌∙◌, ap, subst, rules, arith, add-one}
-use Rattle.std.specs.Prelude.{◌&&◌, not}
+use Rattle.std.proofs.Common.{◌≡◌, ℕ, zero, suc, ◌+◌, ◌≤◌, Bool, true, false, List, [], ◌∷◌, length, drop, Some, refl, sym, ◌∙◌, ap, subst, arith, add-one}
+use Rattle.std.specs.Prelude.{◌&&◌}
 use Rattle.std.specs.List.{list_all}
 use Rattle.std.specs.Option.{option_map, option_and_then}
-use Rattle.mls_model.specs.declared.lanes.LaneKind.{LaneKind}
-use Rattle.mls_model.specs.declared.lanes.LaneKind.TheVariants.{Client, Control}
 use Rattle.mls_model.specs.Numbers.{element}
-use Rattle.mls_model.specs.Frames.{Frame}
 use Rattle.mls_model.specs.Lanes.{Lane}
-use Rattle.mls_model.specs.Schedules.{event_count}
 use Rattle.mls_model.specs.Histories.{Event, event_of}
-use Rattle.mls_replay.specs.Calm.{is_calm, is_calm_lane, is_calm_frame}
 use Rattle.mls_replay.proofs.CalmEvents.{mapped}
 
 drop_there : {A : Type 0} (xs : List A) (n : ℕ) (x : A) → element xs n ≡ Some x → drop n xs ≡ x ∷ drop (suc n) xs

@@ -1,5 +1,5 @@
 -- One core for the one rank, the lanes' lines, and the text of both.
-use Rattle.std.proofs.Common.{◌≡◌, List, ℕ, zero, suc, [], ◌∷◌, ◌++◌, ◌+◌, ◌<◌, ◌≤◌, length, map, take, get_or, Option, Some, None, refl, sym, ◌∙◌, ap, subst, arith, absurd, add-one, take-suc}
+use Rattle.std.proofs.Common.{◌≡◌, List, ℕ, zero, suc, [], ◌∷◌, ◌++◌, ◌+◌, ◌<◌, ◌≤◌, length, map, take, get_or, Option, Some, None, refl, sym, ◌∙◌, ap, subst, arith, add-one, take-suc}
 use Rattle.std.specs.Prelude.{IfSome, unwrap_or}
 use Rattle.std.specs.List.{enumerate_from}
 use Rattle.std.proofs.lemmas.List.{take_all}
@@ -67,3 +67,8 @@ lines_all lanes i kept is_kept past = is_kept ∙ take_all i (map line_at (enume
 pub text_is : (study : Study) (lanes : List Lane) (orders : List (List ℕ)) → history_text study (histories_of lanes orders) (lines_of lanes) ≡ result_text study lanes orders
 unfolding history_text result_text counts_of rows_of
 text_is study lanes orders = refl
+
+-- a fact of the lane, where there is one
+pub if_there : (o : Option Lane) (P : Lane → Type 0) → ((l : Lane) → o ≡ Some l → P l) → IfSome o P
+if_there None P each = tt
+if_there (Some l) P each = each l refl

@@ -1,5 +1,5 @@
 -- One more event of a rank's list.
-use Rattle.std.proofs.Common.{◌≡◌, ℕ, zero, suc, ◌+◌, ◌<◌, ◌≤◌, Bool, true, false, cond, eqb, ltb, leb, List, [], ◌∷◌, ◌++◌, length, take, drop, get_or, Option, Some, None, refl, sym, ◌∙◌, ap, subst, inl, inr, arith, rules, add-one, take-suc}
+use Rattle.std.proofs.Common.{◌≡◌, ℕ, zero, suc, ◌+◌, ◌<◌, ◌≤◌, Bool, true, false, cond, List, [], ◌∷◌, ◌++◌, length, take, drop, get_or, refl, sym, ◌∙◌, ap, inl, inr, arith, add-one, take-suc}
 use Rattle.std.specs.Prelude.{nat_le, IfSome, ◌==◌, ◌&&◌}
 use Rattle.std.specs.Option.{option_to_list}
 use Rattle.std.specs.List.{list_all}
@@ -9,10 +9,9 @@ use Rattle.std.proofs.lemmas.List.Folds.{list_all_at}
 use Rattle.std.proofs.lemmas.Bool.{cases_Bool}
 use Rattle.std.proofs.Common.{drop-cons}
 use Rattle.mls_model.specs.Numbers.{times, element}
-use Rattle.mls_model.specs.Places.{gathered}
 use Rattle.mls_model.specs.Lanes.{Lane}
 use Rattle.mls_model.specs.Schedules.{event_count, is_lane_of, is_legal_order}
-use Rattle.mls_model.specs.Histories.{Event, event_of, history}
+use Rattle.mls_model.specs.Histories.{event_of, history}
 use Rattle.mls_laws.proofs.Places.{gathered_more}
 
 -- how often a number stands in a longer list

@@ -1,5 +1,6 @@
 -- The counts and the history after one more event.
-use Rattle.std.proofs.Common.{◌≡◌, ◌≢◌, ℕ, zero, suc, ◌+◌, ◌<◌, Bool, true, false, cond, eqb, List, [], ◌∷◌, ◌++◌, length, take, get_or, set, Some, refl, sym, ◌∙◌, ap, subst, inl, inr, arith, get_or-set_other, get_or-set_same, length-set, replicate, length-replicate, get_or-replicate}
+use Rattle.std.proofs.Common.{◌≡◌, ◌≢◌, ℕ, ◌+◌, ◌<◌, true, false, cond, List, [], ◌∷◌, ◌++◌, length, take, get_or, set, Some, refl, sym, ◌∙◌, ap, subst, inl, inr, arith, get_or-set_other, get_or-set_same, length-set, replicate}
+use Rattle.std.proofs.lemmas.List.{length-replicate, get_or-replicate}
 use Rattle.std.specs.Prelude.{◌==◌}
 use Rattle.std.specs.Option.{option_to_list}
 use Rattle.std.proofs.lemmas.Bool.{cases_Bool}
@@ -45,17 +46,17 @@ each_more taken order i j here lt was =
     let k = get_or order i 0 in
     let more = times_more order i j here in
     elim (cases_Bool (k == j)) [
-      inl same ↦
-        let e : k ≡ j = grind (arith, nat_tests, same) in
-        let one = times_one j k same in
-        let now : get_or (set taken j (get_or taken j 0 + 1)) j 0 ≡ get_or taken j 0 + 1 = get_or-set_same taken j (get_or taken j 0 + 1) 0 lt in
-        let at : get_or (set taken k (get_or taken k 0 + 1)) j 0 ≡ get_or taken j 0 + 1 = subst (λ n. get_or (set taken n (get_or taken n 0 + 1)) j 0 ≡ get_or taken j 0 + 1) (sym e) now in
-        omega (arith, at, was, more, one)
-    | inr other ↦
-        let ne : j ≢ k = grind (arith, nat_tests, other) in
-        let none = times_none j k other in
-        let now = get_or-set_other taken k j (get_or taken k 0 + 1) 0 ne in
-        omega (arith, now, was, more, none)
+      | inl same ↦
+          let e : k ≡ j = grind (arith, nat_tests, same) in
+          let one = times_one j k same in
+          let now : get_or (set taken j (get_or taken j 0 + 1)) j 0 ≡ get_or taken j 0 + 1 = get_or-set_same taken j (get_or taken j 0 + 1) 0 lt in
+          let at : get_or (set taken k (get_or taken k 0 + 1)) j 0 ≡ get_or taken j 0 + 1 = subst (λ n. get_or (set taken n (get_or taken n 0 + 1)) j 0 ≡ get_or taken j 0 + 1) (sym e) now in
+          omega (arith, at, was, more, one)
+      | inr other ↦
+          let ne : j ≢ k = grind (arith, nat_tests, other) in
+          let none = times_none j k other in
+          let now = get_or-set_other taken k j (get_or taken k 0 + 1) 0 ne in
+          omega (arith, now, was, more, none)
     ]
 
 -- the counts with the event at a place

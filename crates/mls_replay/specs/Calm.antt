@@ -1,5 +1,5 @@
 -- Tapes without saves and crashes.
-use Rattle.std.specs.Prelude.{Bool, true, not, ◌||◌, ◌&&◌, List}
+use Rattle.std.specs.Prelude.{Bool, true, not, ◌&&◌, List}
 use Rattle.std.specs.List.{list_all}
 use Rattle.mls_model.specs.declared.lanes.LaneKind.{LaneKind}
 use Rattle.mls_model.specs.declared.lanes.LaneKind.TheVariants.{Client, Control}

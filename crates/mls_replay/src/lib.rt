@@ -2,8 +2,8 @@
 #![tactic(auto)]
 
 mod calm;
-mod fold;
+mod folding;
 mod ranks;
 
 pub use calm::is_calm;
-pub use fold::{fold, fold_cores};
+pub use folding::{fold, fold_cores};

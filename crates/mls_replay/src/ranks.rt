@@ -37,6 +37,7 @@ fn take_event<F: RowFold>(
 {
     let lane = order[place];
     let number = taken[lane as usize];
+    // The lane has more events than were taken of it, so that one more fits.
     let _events = tape.events(lane);
     taken[lane as usize] = number + 1;
     let event = tape.event(lane, number);

@@ -1,8 +1,7 @@
 -- The lane at the number decides the test from there on.
-use Rattle.std.proofs.Common.{◌≡◌, ℕ, ◌<◌, length, ◌+◌, ◌≤◌, Bool, true, false, sym, ◌∙◌, ap, Some, arith, drop}
-use Rattle.mls_model.specs.Numbers.{element}
+use Rattle.std.proofs.Common.{sym, ◌∙◌, arith}
 use Rattle.mls_model.specs.Lanes.{Lane}
-use Rattle.mls_replay.specs.Calm.{is_calm, is_calm_lane}
+use Rattle.mls_replay.specs.Calm.{is_calm_lane}
 use Rattle.mls_tape.proofs.Entries.{lane_there}
 use Rattle.mls_replay.proofs.CalmWalk.{all_passed, all_failed}
 use Rattle.mls_replay.proofs.calm.is_calm.Goals as goal

@@ -1,9 +1,6 @@
 -- The frame at the number decides the test from there on.
-use Rattle.std.proofs.Common.{◌≡◌, ℕ, ◌<◌, length, ◌+◌, ◌≤◌, Bool, true, false, sym, ◌∙◌, ap, Some, arith, drop}
-use Rattle.std.specs.List.{list_all}
-use Rattle.mls_model.specs.Numbers.{element}
-use Rattle.mls_model.specs.Lanes.{Lane}
-use Rattle.mls_replay.specs.Calm.{is_calm, is_calm_lane, is_calm_frame}
+use Rattle.std.proofs.Common.{length, ◌≤◌, sym, ◌∙◌, ap, arith}
+use Rattle.mls_replay.specs.Calm.{is_calm_frame}
 use Rattle.mls_tape.proofs.Entries.{count_of}
 use Rattle.mls_replay.proofs.CalmWalk.{all_passed, all_failed, all_end, frame_of_event}
 use Rattle.mls_replay.proofs.calm.is_calm_lane.Goals as goal

@@ -1,9 +1,9 @@
 -- The event that a place names is the next of its lane.
-use Rattle.std.proofs.Common.{◌≡◌, ℕ, ◌<◌, get_or, false, take, Some, subst, arith, ap, sym, ◌∙◌}
+use Rattle.std.proofs.Common.{get_or, take, Some, subst, arith, ap, sym, ◌∙◌}
 use Rattle.mls_frame.specs.Views.{frame_of}
 use Rattle.mls_model.specs.Histories.{Event, history}
 use Rattle.mls_replay.proofs.CalmEvents.{calm_event}
-use Rattle.mls_replay.proofs.Taking.{IsLeft, is_left, taken_more, history_taken, same_event}
+use Rattle.mls_replay.proofs.Taking.{is_left, taken_more, history_taken, same_event}
 use Rattle.mls_rank.specs.Standing.{StandsFor}
 use Rattle.mls_rank.specs.Cores.{rank_of}
 use Rattle.mls_replay.proofs.ranks.take_event.Goals as goal
@@ -38,6 +38,6 @@ returns-clause-stands g c = λ stands.
     let left = is_left c.args.tape.now.lanes (rank_of c.args.core.now) c.args.order.now c.args.place c.args.taken.now c.requires.legal c.requires.here c.requires.counted in
     let calm = calm_event c.args.tape.now.lanes (get_or c.args.order.now c.args.place 0) (get_or c.args.taken.now (get_or c.args.order.now c.args.place 0) 0) e c.requires.calm there in
     let more =
-        history_taken c.args.tape.now.lanes c.args.order.now c.args.place (get_or c.args.taken.now (get_or c.args.order.now c.args.place 0) 0) e
-        c.requires.here (c.requires.counted.each (get_or c.args.order.now c.args.place 0) left.lane_in) there in
+    history_taken c.args.tape.now.lanes c.args.order.now c.args.place (get_or c.args.taken.now (get_or c.args.order.now c.args.place 0) 0) e
+    c.requires.here (c.requires.counted.each (get_or c.args.order.now c.args.place 0) left.lane_in) there in
     subst (StandsFor c.step.new.self) more (c.in_ok-step.ensures.stands (history c.args.tape.now.lanes (take c.args.place c.args.order.now)) stands calm.no_crash)

@@ -1,7 +1,6 @@
 //! All ranks, and the text of their cores.
 
 ghost use Rattle.std.specs.Prelude.{◌≡◌, ℕ, ◌<◌, ◌≤◌, ◌+◌, List, [], length, get_or, vec_len, true, IfOk, IfErr};
-ghost use Rattle.std.specs.List.{enumerate_from};
 ghost use Rattle.mls_model.specs.Schedules.{is_legal};
 ghost use Rattle.mls_model.specs.ResultText.{result_text, lines_of};
 ghost use Rattle.mls_result.specs.Histories.{ShowsPowerAlone, AreCores, AllStand};
