@@ -1,6 +1,8 @@
 -- How an answer and a sink agree with what is right.
 use Rattle.std.specs.Prelude.{◌≡◌, ℕ, List, Option, Result, Ok, Err, IsOkAnd}
 use Rattle.mls_base.specs.Told.{appended, WroteFront}
+use Rattle.mls_result.specs.declared.fault.FoldFault.{FoldFault}
+use Rattle.mls_result.specs.declared.fault.FoldFault.TheVariants.{WriteFault, Memory}
 use Rattle.mls_result.specs.declared.status.Status.{Status}
 use Rattle.mls_result.specs.declared.status.Status.TheVariants as status
 
@@ -12,3 +14,9 @@ Answers right old new status.WriteFault = IsOkAnd right (λ text. WroteFront old
 Answers right old new status.Memory = new ≡ old
 Answers right old new status.ReadFault = new ≡ old
 Answers right old new answer = (right ≡ Err answer) × (new ≡ old)
+
+-- what a command answers after a fold
+abbrev pub fold_status : {A : Type 0} → Result A FoldFault → Status
+fold_status (Ok done) = status.Done
+fold_status (Err WriteFault) = status.WriteFault
+fold_status (Err Memory) = status.Memory

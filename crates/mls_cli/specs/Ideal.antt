@@ -1,5 +1,5 @@
 -- What is right: the text that a command writes, or its refusal, from the files that are held.
-use Rattle.std.specs.Prelude.{ℕ, ◌<◌, Bool, true, false, not, ◌&&◌, ◌||◌, cond, List, [], ◌∷◌, length, Option, Some, None, Result, Ok, Err, nat_lt, ◌==◌}
+use Rattle.std.specs.Prelude.{ℕ, not, ◌||◌, cond, List, length, Option, Some, None, Result, Ok, Err, nat_lt, ◌==◌}
 use Rattle.mls_base.specs.Told.{Names}
 use Rattle.mls_model.specs.declared.studies.Statistic.TheVariants.{Extrema, Exceed, Sobol}
 use Rattle.mls_model.specs.Studies.{Study, shows}
@@ -48,28 +48,30 @@ not_built p = Err (status.NotBuilt p)
 -- a study of one rank and one client that shows power alone
 abbrev pub built_study : Study → Result Study Status
 built_study study =
-  cond (not (study.sizes.ranks == 1)) (not_built part.Ranks)
-  (cond (not (study.sizes.clients == 1)) (not_built part.Clients)
-  (cond (shows study Extrema || (shows study Exceed || shows study Sobol)) (not_built part.Statistics)
-  (Ok study)))
+    cond (not (study.sizes.ranks == 1)) (not_built part.Ranks)
+    (cond (not (study.sizes.clients == 1)) (not_built part.Clients)
+    (cond (shows study Extrema || (shows study Exceed || shows study Sobol)) (not_built part.Statistics)
+    (Ok study)))
 
 -- a tape without saves and crashes on control lanes
 abbrev pub built_tape : List Lane → Result (List Lane) Status
 built_tape lanes = cond (is_calm lanes) (Ok lanes) (not_built part.Control)
 
--- the study in these bytes
-unfoldable pub right_study : Names → List ℕ → Result Study Status
-right_study files name = do
-  bytes ← limited role.Study study_limit (files name)
-  study ← study_answer (study_of bytes)
-  built_study study
+-- the study that bytes spell, where all of it is built
+abbrev pub content_study : List ℕ → Result Study Status
+content_study bytes = study_answer (study_of bytes) >>= built_study
 
--- the lanes in these bytes
+-- the lanes that bytes spell under a study, where all of them are built
+abbrev pub content_lanes : Study → List ℕ → Result (List Lane) Status
+content_lanes study bytes = tape_answer (tape_of study.sizes.ranks study.sizes.signed bytes) >>= built_tape
+
+-- the study of a name
+unfoldable pub right_study : Names → List ℕ → Result Study Status
+right_study files name = limited role.Study study_limit (files name) >>= content_study
+
+-- the lanes of a name
 unfoldable pub right_lanes : Names → Study → List ℕ → Result (List Lane) Status
-right_lanes files study name = do
-  bytes ← limited role.Tape tape_limit (files name)
-  lanes ← tape_answer (tape_of study.sizes.ranks study.sizes.signed bytes)
-  built_tape lanes
+right_lanes files study name = limited role.Tape tape_limit (files name) >>= content_lanes study
 
 -- the text of a fold under the plain schedule
 unfoldable pub right_fold : Names → FoldNames → Result (List ℕ) Status

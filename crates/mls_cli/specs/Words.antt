@@ -1,5 +1,5 @@
 -- Which words are a command.
-use Rattle.std.specs.Prelude.{ℕ, zero, suc, Bool, true, false, not, ◌&&◌, ◌||◌, cond, List, [], ◌∷◌, bytes_eq, codes, Result, Ok, Err, ◌==◌}
+use Rattle.std.specs.Prelude.{ℕ, Bool, false, not, ◌&&◌, cond, List, [], ◌∷◌, bytes_eq, codes, Result, Ok, Err, ◌==◌}
 use Rattle.std.specs.List.{list_any}
 use Rattle.mls_result.specs.declared.status.Status.{Status}
 use Rattle.mls_result.specs.declared.status.Status.TheVariants.{Usage, NotBuilt}

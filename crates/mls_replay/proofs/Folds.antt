@@ -23,6 +23,7 @@ one_core {F} {T} s core one is_sizes is_rank = record { count = sym one; sizes =
     at_sizes : (rank : ℕ) (d : RankCore F T) → rank < 1 → sizes_of (get_or (core ∷ []) rank d) ≡ s
     at_sizes zero d here = is_sizes
     at_sizes (suc n) d here = absurd (omega arith)
+
     at_ranks : (rank : ℕ) (d : RankCore F T) → rank < 1 → rank_of (get_or (core ∷ []) rank d) ≡ rank
     at_ranks zero d here = is_rank
     at_ranks (suc n) d here = absurd (omega arith)
@@ -54,10 +55,10 @@ length-lines (lane ∷ lanes) n = ap suc (length-lines lanes (n + 1))
 pub lines_more : (lanes : List Lane) (i : ℕ) (kept : List LaneLine) (r : LaneLine) → kept ≡ take i (lines_of lanes) → i < length lanes → IfSome (element lanes i) (λ l. r ≡ line_of i l) → kept ++ r ∷ [] ≡ take (i + 1) (lines_of lanes)
 unfolding lines_of
 lines_more lanes i kept r is_kept here is_line =
-  let all = map line_at (enumerate_from 0 lanes) in
-  let there : i < length all = omega (arith, here, length-lines lanes 0) in
-  let own = line_here lanes 0 i r r here (subst (λ m. IfSome (element lanes i) (λ l. r ≡ line_of m l)) (omega arith) is_line) in
-  sym (ap (λ n. take n all) (add-one i) ∙ take-suc all i r there ∙ ap (λ x. take i all ++ x ∷ []) own ∙ ap (λ xs. xs ++ r ∷ []) (sym is_kept))
+    let all = map line_at (enumerate_from 0 lanes) in
+    let there : i < length all = omega (arith, here, length-lines lanes 0) in
+    let own = line_here lanes 0 i r r here (subst (λ m. IfSome (element lanes i) (λ l. r ≡ line_of m l)) (omega arith) is_line) in
+    sym (ap (λ n. take n all) (add-one i) ∙ take-suc all i r there ∙ ap (λ x. take i all ++ x ∷ []) own ∙ ap (λ xs. xs ++ r ∷ []) (sym is_kept))
 
 pub lines_all : (lanes : List Lane) (i : ℕ) (kept : List LaneLine) → kept ≡ take i (lines_of lanes) → length lanes ≤ i → kept ≡ lines_of lanes
 unfolding lines_of

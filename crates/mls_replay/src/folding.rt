@@ -125,6 +125,13 @@ pub fn fold<K: Keeper + Drop, O: Sink>(
         Ok(cores) => cores,
         Err(_) => return (Err(FoldFault::Memory), keepers),
     };
-    let answer = write_cores(study, tape, schedule, cores.as_slice(), lines.as_slice(), out);
+    let answer = write_cores(
+        study,
+        tape,
+        schedule,
+        cores.as_slice(),
+        lines.as_slice(),
+        out,
+    );
     (answer, keepers)
 }

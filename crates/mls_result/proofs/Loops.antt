@@ -22,17 +22,17 @@ at_end (x ∷ xs) y d = at_end xs y d
 pub get_or-below : (n i d : ℕ) → i < n → get_or (below n) i d ≡ i
 get_or-below zero i d here = absurd (omega arith)
 get_or-below (suc n) i d here = elim (cases_lt i n) [
-    inl small ↦ at_front (below n) (n ∷ []) i d (omega (arith, length-below n)) ∙ get_or-below n i d small
+  | inl small ↦ at_front (below n) (n ∷ []) i d (omega (arith, length-below n)) ∙ get_or-below n i d small
   | inr large ↦ let last : i ≡ n = omega arith in ap (λ j. get_or (below n ++ n ∷ []) j d) (last ∙ sym (length-below n)) ∙ at_end (below n) n d ∙ sym last
-  ]
+]
 
 pub number_more : (f : ℕ → List ℕ) (i n : ℕ) (text : List ℕ) (old mid new : Option (List ℕ)) (before now after : ℕ) → i < n → IsFrontOut (flat_map f (drop i (below n))) text old mid before now → new ≡ appended mid (f i) → after ≡ now → IsFrontOut (flat_map f (drop (i + 1) (below n))) text old new before after
 number_more f i n text old mid new before now after here out is_new is_now =
-  texts_more f i (below n) 0 text old mid new before now after (omega (arith, here, length-below n)) out (is_new ∙ ap (λ j. appended mid (f j)) (sym (get_or-below n i 0 here))) is_now
+    texts_more f i (below n) 0 text old mid new before now after (omega (arith, here, length-below n)) out (is_new ∙ ap (λ j. appended mid (f j)) (sym (get_or-below n i 0 here))) is_now
 
 pub number_failed : (f : ℕ → List ℕ) (i n : ℕ) (text : List ℕ) (old mid new : Option (List ℕ)) (before now : ℕ) → i < n → IsFrontOut (flat_map f (drop i (below n))) text old mid before now → WroteFront mid new (f i) → WroteFront old new text
 number_failed f i n text old mid new before now here out failed =
-  texts_failed f i (below n) 0 text old mid new before now (omega (arith, here, length-below n)) out (subst (λ j. WroteFront mid new (f j)) (sym (get_or-below n i 0 here)) failed)
+    texts_failed f i (below n) 0 text old mid new before now (omega (arith, here, length-below n)) out (subst (λ j. WroteFront mid new (f j)) (sym (get_or-below n i 0 here)) failed)
 
 pub number_all : (f : ℕ → List ℕ) (i n : ℕ) (text : List ℕ) (old new : Option (List ℕ)) (before now : ℕ) → n ≤ i → IsFrontOut (flat_map f (drop i (below n))) text old new before now → new ≡ appended old text
 number_all f i n text old new before now past out = texts_all f i (below n) text old new before now (omega (arith, past, length-below n)) out

@@ -40,11 +40,11 @@ pub record AreLines (ws : List ℤ) (p : Powers) (variance third : ℤ) (n : ℕ
 
 pub are_lines : {A : Type 0} (f : A → List ℤ) (rows : List A) (count : ℕ) (p : Powers) (variance third : ℤ) → length rows ≡ count → 0 < count → ArePowers p (outputs (map f rows)) → variance ≡ variance_top (outputs (map f rows)) → third ≡ third_top (outputs (map f rows)) → AreLines (outputs (map f rows)) p variance third (2 * count)
 are_lines f rows count p variance third counted some powers is_variance is_third =
-  let ws = outputs (map f rows) in
-  let long : length ws ≡ 2 * count = length-outputs (map f rows) ∙ ap (λ n. 2 * n) (length-map rows f ∙ counted) in
-  let there : 0 < length ws = omega (arith, long, some) in
-  record {
-    first = power_line-some ws there ∙ sym (ap (λ x. power_words x (pos p.p2) p.p3 p.p4) powers.first ∙ ap (λ x. power_words (total ws) x p.p3 p.p4) powers.second ∙ ap (λ x. power_words (total ws) (squares ws) x p.p4) powers.third ∙ ap (λ x. power_words (total ws) (squares ws) (cubes ws) x) powers.fourth);
-    second = variance_line-some ws there ∙ ap (variance_words (variance_top ws)) long ∙ ap (λ x. variance_words x (2 * count)) (sym is_variance);
-    last = third_line-some ws there ∙ ap (third_words (third_top ws)) long ∙ ap (λ x. third_words x (2 * count)) (sym is_third);
-  }
+    let ws = outputs (map f rows) in
+    let long : length ws ≡ 2 * count = length-outputs (map f rows) ∙ ap (λ n. 2 * n) (length-map rows f ∙ counted) in
+    let there : 0 < length ws = omega (arith, long, some) in
+    record {
+      first = power_line-some ws there ∙ sym (ap (λ x. power_words x (pos p.p2) p.p3 p.p4) powers.first ∙ ap (λ x. power_words (total ws) x p.p3 p.p4) powers.second ∙ ap (λ x. power_words (total ws) (squares ws) x p.p4) powers.third ∙ ap (λ x. power_words (total ws) (squares ws) (cubes ws) x) powers.fourth);
+      second = variance_line-some ws there ∙ ap (variance_words (variance_top ws)) long ∙ ap (λ x. variance_words x (2 * count)) (sym is_variance);
+      last = third_line-some ws there ∙ ap (third_words (third_top ws)) long ∙ ap (λ x. third_words x (2 * count)) (sym is_third);
+    }

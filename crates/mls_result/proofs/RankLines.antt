@@ -27,14 +27,14 @@ pair_of f dx = (0, f dx)
 
 pub rank_more : {X : Type 0} (f : X → Counts) (i : ℕ) (xs : List X) (dx : X) (text : List ℕ) (old mid new : Option (List ℕ)) (before now after : ℕ) → i < length xs → IsFrontOut (flat_map line_of_rank (drop i (enumerate_from 0 (map f xs)))) text old mid before now → new ≡ appended mid (rank_line i (f (get_or xs i dx))) → after ≡ now → IsFrontOut (flat_map line_of_rank (drop (i + 1) (enumerate_from 0 (map f xs)))) text old new before after
 rank_more f i xs dx text old mid new before now after here out is_new is_now =
-  let there : i < length (enumerate_from 0 (map f xs)) = omega (arith, here, length-enumerated f 0 xs) in
-  texts_more line_of_rank i (enumerate_from 0 (map f xs)) (pair_of f dx) text old mid new before now after there out (is_new ∙ ap (appended mid) (sym (line_at f i xs dx (pair_of f dx) here))) is_now
+    let there : i < length (enumerate_from 0 (map f xs)) = omega (arith, here, length-enumerated f 0 xs) in
+    texts_more line_of_rank i (enumerate_from 0 (map f xs)) (pair_of f dx) text old mid new before now after there out (is_new ∙ ap (appended mid) (sym (line_at f i xs dx (pair_of f dx) here))) is_now
 
 pub rank_failed : {X : Type 0} (f : X → Counts) (i : ℕ) (xs : List X) (dx : X) (text : List ℕ) (old mid new : Option (List ℕ)) (before now : ℕ) → i < length xs → IsFrontOut (flat_map line_of_rank (drop i (enumerate_from 0 (map f xs)))) text old mid before now → WroteFront mid new (rank_line i (f (get_or xs i dx))) → WroteFront old new text
 rank_failed f i xs dx text old mid new before now here out failed =
-  let there : i < length (enumerate_from 0 (map f xs)) = omega (arith, here, length-enumerated f 0 xs) in
-  texts_failed line_of_rank i (enumerate_from 0 (map f xs)) (pair_of f dx) text old mid new before now there out (subst (WroteFront mid new) (sym (line_at f i xs dx (pair_of f dx) here)) failed)
+    let there : i < length (enumerate_from 0 (map f xs)) = omega (arith, here, length-enumerated f 0 xs) in
+    texts_failed line_of_rank i (enumerate_from 0 (map f xs)) (pair_of f dx) text old mid new before now there out (subst (WroteFront mid new) (sym (line_at f i xs dx (pair_of f dx) here)) failed)
 
 pub ranks_all : {X : Type 0} (f : X → Counts) (i : ℕ) (xs : List X) (text : List ℕ) (old new : Option (List ℕ)) (before now : ℕ) → length xs ≤ i → IsFrontOut (flat_map line_of_rank (drop i (enumerate_from 0 (map f xs)))) text old new before now → new ≡ appended old text
 ranks_all f i xs text old new before now past out =
-  texts_all line_of_rank i (enumerate_from 0 (map f xs)) text old new before now (omega (arith, past, length-enumerated f 0 xs)) out
+    texts_all line_of_rank i (enumerate_from 0 (map f xs)) text old new before now (omega (arith, past, length-enumerated f 0 xs)) out

@@ -32,5 +32,5 @@ rank_is s x one here = (share_found s.cells s.ranks x 0 (omega arith)).1 (omega 
 -- so its rows are those of the one rank's history
 pub rows_are : (s : Sizes) (histories : ℕ → List Event) (rank plane x : ℕ) → s.ranks ≡ 1 → rank ≡ 0 → x < s.cells → rows s rank plane x (pieces_of s rank (histories 0)) ≡ history_rows s histories plane x
 rows_are s histories rank plane x one zero here =
-  ap (λ r. rows s r plane x (pieces_of s r (histories 0))) zero
-  ∙ ap (λ (o : Option ℕ). elim o [ None ↦ [] | Some r ↦ rows s r plane x (pieces_of s r (histories r)) ]) (sym (rank_is s x one here))
+    ap (λ r. rows s r plane x (pieces_of s r (histories 0))) zero
+    ∙ ap (λ (o : Option ℕ). elim o [ None ↦ [] | Some r ↦ rows s r plane x (pieces_of s r (histories r)) ]) (sym (rank_is s x one here))

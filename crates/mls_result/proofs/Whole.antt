@@ -19,16 +19,16 @@ use Rattle.mls_result.specs.Histories.{history_counts, history_rows, history_tex
 pub counts_are : {F : Type 0} {T : Ghosts F} (s : Sizes) (cores : List (RankCore F T)) (histories : ℕ → List Event) → s.ranks ≡ 1 → AreCores s cores → AllStand cores histories → map counts_of cores ≡ history_counts s histories
 counts_are s [] histories one are stand = absurd (let n = are.count in omega (arith, n, one))
 counts_are s (core ∷ []) histories one are stand =
-  let stands = stand.each 0 core (omega arith) in
-  let is_sizes = are.sizes 0 core (omega arith) in
-  let is_rank = are.ranks 0 core (omega arith) in
-  let same = stands.counts ∙ ap (λ z. counts z (rank_of core) (surviving (histories 0))) is_sizes ∙ ap (λ r. counts s r (surviving (histories 0))) is_rank in
-  ap (λ (n : Counts). n ∷ []) same ∙ ap (λ n. map (λ rank. counts s rank (surviving (histories rank))) (below n)) (sym one)
+    let stands = stand.each 0 core (omega arith) in
+    let is_sizes = are.sizes 0 core (omega arith) in
+    let is_rank = are.ranks 0 core (omega arith) in
+    let same = stands.counts ∙ ap (λ z. counts z (rank_of core) (surviving (histories 0))) is_sizes ∙ ap (λ r. counts s r (surviving (histories 0))) is_rank in
+    ap (λ (n : Counts). n ∷ []) same ∙ ap (λ n. map (λ rank. counts s rank (surviving (histories rank))) (below n)) (sym one)
 counts_are s (core ∷ other ∷ rest) histories one are stand = absurd (let n = are.count in omega (arith, n, one))
 
 -- the text in the parts that are written
 pub text-split : (study : Study) (histories : ℕ → List Event) (lines : List LaneLine) (all : List Counts) → all ≡ history_counts study.sizes histories → history_text study histories lines ≡ (title_words ++ study_line study) ++ (rank_lines all ++ (lane_lines lines ++ (cells_text study (history_rows study.sizes histories) ++ end_words)))
 unfolding history_text text_of title_words end_words
 text-split study histories lines all same =
-  ap (λ a. text_of study a lines (history_rows study.sizes histories)) (sym same)
-  ∙ sym (append_assoc title_words (study_line study) (rank_lines all ++ (lane_lines lines ++ (cells_text study (history_rows study.sizes histories) ++ end_words))))
+    ap (λ a. text_of study a lines (history_rows study.sizes histories)) (sym same)
+    ∙ sym (append_assoc title_words (study_line study) (rank_lines all ++ (lane_lines lines ++ (cells_text study (history_rows study.sizes histories) ++ end_words))))

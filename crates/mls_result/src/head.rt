@@ -18,7 +18,10 @@ fn put_fields_said<O: Sink>(out: &mut O, fields: u32) -> Result<(), Failed>
     ensures { Writes result (fields_said fields) (O.told out.old) (O.told out.new) (O.faults out.old) (O.faults out.new) }
 {
     let mut number = Buffer::new();
-    put_pieces(out, &[b" fields ".as_slice(), number.format(fields).as_bytes()])
+    put_pieces(
+        out,
+        &[b" fields ".as_slice(), number.format(fields).as_bytes()],
+    )
 }
 
 /// Writes the number of fields where the study names them.
@@ -62,7 +65,10 @@ fn put_field<O: Sink>(out: &mut O, study: &Study, field: u32) -> Result<(), Fail
     ensures { Writes result (field_words study.now field) (O.told out.old) (O.told out.new) (O.faults out.old) (O.faults out.new) }
 {
     if study.named() {
-        return put_pieces(out, &[b" field ".as_slice(), study.field_name(field).as_bytes()]);
+        return put_pieces(
+            out,
+            &[b" field ".as_slice(), study.field_name(field).as_bytes()],
+        );
     }
     Ok(())
 }

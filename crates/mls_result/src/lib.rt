@@ -10,5 +10,5 @@ mod status;
 mod text;
 
 pub use fault::FoldFault;
-pub use text::write_result;
 pub use status::{FileRole, Part, Status};
+pub use text::write_result;

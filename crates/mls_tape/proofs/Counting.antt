@@ -1,8 +1,7 @@
 -- Counting the events of lanes one after another, as a loop does.
-use Rattle.std.proofs.Common.{◌≡◌, ℕ, zero, suc, ◌+◌, ◌≤◌, ◌<◌, Bool, true, false, cond, ltb, List, [], ◌∷◌, ◌++◌, length, drop, map, get_or, Result, Ok, Err, refl, sym, ap, ◌∙◌, append_assoc, arith}
+use Rattle.std.proofs.Common.{◌≡◌, ℕ, ◌+◌, ◌≤◌, ◌<◌, true, false, ltb, List, [], ◌∷◌, ◌++◌, length, drop, map, get_or, Ok, Err, refl, sym, ap, ◌∙◌, append_assoc}
 use Rattle.std.proofs.lemmas.Bool.{lt-ltb, le-ltb}
-use Rattle.std.proofs.lemmas.List.{append-nil, drop_more, drop_all}
-use Rattle.mls_model.specs.declared.lanes.LaneKind.{LaneKind}
+use Rattle.std.proofs.lemmas.List.{drop_more, drop_all}
 use Rattle.mls_model.specs.declared.lanes.LaneEnd.{LaneEnd}
 use Rattle.mls_model.specs.declared.lanes.TapeWhy.TheVariants as why
 use Rattle.mls_model.specs.Numbers.{joined}

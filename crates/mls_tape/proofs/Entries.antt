@@ -1,5 +1,5 @@
 -- What a tape keeps of its lanes, lane by lane.
-use Rattle.std.proofs.Common.{◌≡◌, Bool, false, eqb, ℕ, zero, suc, ◌+◌, ◌≤◌, ◌<◌, List, [], ◌∷◌, ◌++◌, length, drop, get_or, Option, Some, None, refl, sym, ap, subst, ◌∙◌, arith, inl, inr}
+use Rattle.std.proofs.Common.{◌≡◌, false, eqb, ℕ, zero, suc, ◌+◌, ◌≤◌, ◌<◌, List, [], ◌∷◌, length, drop, get_or, Option, Some, refl, sym, ap, subst, ◌∙◌, arith, inl, inr}
 use Rattle.mls_model.specs.Numbers.{element}
 use Rattle.mls_model.specs.Frames.{Frame, spelling, Sight, whole, more, sight}
 use Rattle.mls_model.specs.Lanes.{Lane}

@@ -1,10 +1,8 @@
 -- The frames of a lane's bytes, one after another.
-use Rattle.std.proofs.Common.{◌≡◌, ℕ, zero, suc, ◌+◌, ◌-◌, ◌≤◌, ◌<◌, Bool, true, cond, ltb, List, [], ◌∷◌, ◌++◌, length, take, drop, map, refl, sym, ap, subst, ◌∙◌, append_assoc, arith, ◌⊎◌, inl, inr}
-use Rattle.std.specs.List.{AllByRecursion}
-use Rattle.std.proofs.lemmas.List.{append-nil, append_cancel_left, length-append, length-drop, nil_from_length}
+use Rattle.std.proofs.Common.{◌≡◌, ℕ, zero, suc, ◌+◌, ◌-◌, ◌≤◌, ◌<◌, Bool, true, cond, ltb, List, [], ◌∷◌, ◌++◌, length, drop, map, refl, sym, ap, subst, ◌∙◌, append_assoc, arith}
+use Rattle.std.proofs.lemmas.List.{length-append}
 use Rattle.std.proofs.lemmas.Bool.{lt-ltb}
 use Rattle.mls_model.specs.Numbers.{joined}
-use Rattle.mls_model.specs.declared.lanes.FrameFault.{FrameFault}
 use Rattle.mls_model.specs.Frames.{Frame, IsFrame, spelling, Sight, whole, more, bad, sight}
 use Rattle.mls_model.specs.Lanes.{AreLaneEvents, frames_in, lane_frames, lane_rest}
 use Rattle.mls_frame.specs.declared.seeing.FrameView.{FrameView}
@@ -13,7 +11,7 @@ use Rattle.mls_frame.specs.declared.seeing.Seen.TheVariants as seen
 use Rattle.mls_frame.specs.Views.{AreBytes, sight_of}
 use Rattle.mls_frame.proofs.Places.{AreBytes-drop}
 use Rattle.mls_tape.specs.Scans.{starts_from}
-use Rattle.mls_frame.proofs.Takes.{Takes, seen_takes}
+use Rattle.mls_frame.proofs.Takes.{seen_takes}
 use Rattle.mls_frame.proofs.Theorems.{one_front, bad_begins, more_begins}
 use Rattle.mls_frame.proofs.Within.{spelling-some}
 

@@ -1,7 +1,7 @@
 -- Reading lanes one after another, as a loop does.
-use Rattle.std.proofs.Common.{◌≡◌, ℕ, suc, ◌-◌, ◌+◌, ◌≤◌, ◌<◌, Bool, true, false, cond, eqb, List, [], ◌∷◌, ◌++◌, length, Result, Ok, Err, refl, sym, ap, ◌∙◌, append_assoc, arith}
+use Rattle.std.proofs.Common.{◌≡◌, ℕ, suc, ◌-◌, ◌+◌, ◌≤◌, ◌<◌, true, false, eqb, List, [], ◌∷◌, ◌++◌, length, Ok, Err, refl, sym, ap, ◌∙◌, append_assoc, arith}
 use Rattle.std.proofs.lemmas.List.{append-nil}
-use Rattle.mls_model.specs.Lanes.{◌>>=◌, Read, TapeRefusal, LaneBytes, lane_at, lanes_at}
+use Rattle.mls_model.specs.Lanes.{◌>>=◌, Read, LaneBytes, lane_at, lanes_at}
 use Rattle.mls_model.specs.declared.lanes.TapeWhy.TheVariants as why
 use Rattle.mls_tape.specs.declared.faults.TapeFault.{TapeFault}
 use Rattle.mls_tape.specs.declared.faults.TapeFault.TheVariants as faults

@@ -1,13 +1,10 @@
 -- The plain schedule, lane by lane and rank by rank.
-use Rattle.std.proofs.Common.{◌≡◌, ℕ, zero, suc, ◌+◌, ◌≤◌, ◌<◌, Bool, true, false, cond, eqb, List, [], ◌∷◌, ◌++◌, length, drop, map, get_or, replicate, Option, Some, None, refl, sym, ap, subst, ◌∙◌, append_assoc, eq-eqb, arith}
-use Rattle.std.specs.Global.{Vec}
+use Rattle.std.proofs.Common.{◌≡◌, ℕ, zero, suc, ◌+◌, cond, eqb, List, [], ◌∷◌, ◌++◌, length, drop, replicate, Option, Some, refl, sym, ap, ◌∙◌, append_assoc, eq-eqb, arith}
 use Rattle.std.specs.List.{flat_map, enumerate_from}
-use Rattle.std.proofs.lemmas.List.{append-nil, map_push, replicate_more}
 use Rattle.std.proofs.lemmas.Bool.{ne_eqb}
-use Rattle.mls_model.specs.Numbers.{below, element}
+use Rattle.mls_model.specs.Numbers.{element}
 use Rattle.mls_model.specs.Lanes.{Lane}
-use Rattle.mls_model.specs.Schedules.{event_count, plain_order, plain}
-use Rattle.mls_tape.proofs.Entries.{count_of}
+use Rattle.mls_model.specs.Schedules.{plain_order}
 
 -- what a lane with its number adds to a rank's list
 abbrev pub share : ℕ → ℕ × Lane → List ℕ

@@ -1,14 +1,13 @@
 -- The tables of a tape are those of its lanes.
-use Rattle.std.proofs.Common.{◌≡◌, ℕ, zero, suc, ◌+◌, ◌*◌, ◌≤◌, ◌<◌, Bool, true, false, cond, eqb, ltb, not, ◌&&◌, ◌||◌, List, [], ◌∷◌, ◌++◌, length, take, drop, map, get_or, Option, Some, None, Result, Ok, Err, refl, sym, ap, subst, ◌∙◌, append_assoc, arith, codes, inl, inr}
+use Rattle.std.proofs.Common.{◌≡◌, ℕ, zero, suc, ◌+◌, ◌≤◌, ◌<◌, Bool, true, false, cond, eqb, ltb, not, ◌&&◌, ◌||◌, List, [], ◌∷◌, ◌++◌, length, take, drop, map, get_or, Some, Ok, Err, refl, sym, ap, subst, ◌∙◌, append_assoc, arith, codes, inl, inr}
 use Rattle.std.specs.Int.{w8, w16, w32, Width, byte_len, from_be_bytes}
 use Rattle.std.specs.List.{AllByRecursion}
 use Rattle.std.proofs.lemmas.Bool.{ltb-true, ltb-false, cases_lt}
-use Rattle.std.proofs.lemmas.List.{append-nil, take-append-drop, drop-drop, length-append, get_or_append_left, get_or-append-add, get_or_past, drop_at}
-use Rattle.mls_model.specs.declared.lanes.TapeWhy.{TapeWhy}
+use Rattle.std.proofs.lemmas.List.{take-append-drop, drop-drop, length-append, get_or_append_left, get_or-append-add, get_or_past, drop_at}
 use Rattle.mls_model.specs.declared.lanes.TapeWhy.TheVariants as why
 use Rattle.mls_model.specs.Numbers.{joined, element, same_bytes}
 use Rattle.mls_model.specs.Frames.{Frame, IsFrame, spelling, whole, sight}
-use Rattle.mls_model.specs.Lanes.{◌>>=◌, Read, TapeRefusal, refused, bytes_at, number_at, Lane, LaneBytes, kind_of, lane_at, lanes_at, samples_at, lanes_of, lane_frames, lane_rest, lane_of, counted, tape_of, AreLaneEvents}
+use Rattle.mls_model.specs.Lanes.{◌>>=◌, Read, TapeRefusal, refused, bytes_at, number_at, Lane, LaneBytes, kind_of, lane_at, lanes_at, samples_at, lanes_of, lane_frames, lane_rest, lane_of, counted, tape_of}
 use Rattle.mls_frame.specs.Views.{AreBytes}
 use Rattle.mls_frame.proofs.Places.{AreBytes-drop}
 use Rattle.mls_frame.proofs.Again.{seen_again}

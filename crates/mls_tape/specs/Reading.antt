@@ -1,6 +1,6 @@
 -- What a reader of a tape answers, against the table's definition.
-use Rattle.std.specs.Prelude.{◌≡◌, ℕ, List, map, Result, Ok, Err}
-use Rattle.mls_model.specs.Lanes.{Read, TapeRefusal, LaneBytes}
+use Rattle.std.specs.Prelude.{◌≡◌, List, map, Result, Ok, Err}
+use Rattle.mls_model.specs.Lanes.{Read, LaneBytes}
 use Rattle.mls_tape.specs.declared.faults.TapeFault.{TapeFault}
 use Rattle.mls_tape.specs.declared.faults.TapeFault.TheVariants as faults
 use Rattle.mls_tape.specs.declared.part.Part.{Part}

@@ -1,7 +1,7 @@
 -- What a scan of a lane finds, and the tables that a tape keeps beside its bytes.
-use Rattle.std.specs.Prelude.{◌≡◌, ℕ, zero, suc, ◌+◌, ◌<◌, ◌≤◌, Bool, List, [], ◌∷◌, length, map, slice_index, drop, Option, Some, None, Result, Ok, Err}
+use Rattle.std.specs.Prelude.{◌≡◌, ℕ, ◌+◌, ◌<◌, ◌≤◌, Bool, List, [], ◌∷◌, length, map, slice_index, drop, Some, Ok, Err}
 use Rattle.std.specs.List.{flat_map, AllByRecursion}
-use Rattle.mls_model.specs.Numbers.{joined, element}
+use Rattle.mls_model.specs.Numbers.{element}
 use Rattle.mls_model.specs.Frames.{Frame, spelling, Sight, whole, more, bad, sight}
 use Rattle.mls_model.specs.Lanes.{Lane, LaneBytes, lane_frames, lane_of, tape_of}
 use Rattle.mls_tape.specs.declared.scanning.Entry.{Entry}

@@ -56,7 +56,7 @@ front_failed part rest text old mid new before now f w = record {
 
 pub front_step : (n : ℕ) (rest text : List ℕ) (old mid new : Option (List ℕ)) (before now after : ℕ) → IsFrontOut rest text old mid before now → new ≡ appended mid (take n rest) → after ≡ now → IsFrontOut (drop n rest) text old new before after
 front_step n rest text old mid new before now after f is_new is_now =
-  front_more (take n rest) (drop n rest) text old mid new before now after
+    front_more (take n rest) (drop n rest) text old mid new before now after
     (let P : List ℕ → Type 0 = λ r. IsFrontOut r text old mid before now in subst P (sym (take-append-drop n rest)) f)
     is_new is_now
 
@@ -115,17 +115,17 @@ texts_none f xs old before = front_none (flat_map f xs) old before
 
 pub texts_more : {X : Type 0} (f : X → List ℕ) (i : ℕ) (xs : List X) (d : X) (text : List ℕ) (old mid new : Option (List ℕ)) (before now after : ℕ) → i < length xs → IsFrontOut (flat_map f (drop i xs)) text old mid before now → new ≡ appended mid (f (get_or xs i d)) → after ≡ now → IsFrontOut (flat_map f (drop (i + 1) xs)) text old new before after
 texts_more f i xs d text old mid new before now after here out is_new is_now =
-  front_more (f (get_or xs i d)) (flat_map f (drop (i + 1) xs)) text old mid new before now after
+    front_more (f (get_or xs i d)) (flat_map f (drop (i + 1) xs)) text old mid new before now after
     (let P : List ℕ → Type 0 = λ rest. IsFrontOut rest text old mid before now in subst P (texts_at f i xs d here) out) is_new is_now
 
 pub texts_failed : {X : Type 0} (f : X → List ℕ) (i : ℕ) (xs : List X) (d : X) (text : List ℕ) (old mid new : Option (List ℕ)) (before now : ℕ) → i < length xs → IsFrontOut (flat_map f (drop i xs)) text old mid before now → WroteFront mid new (f (get_or xs i d)) → WroteFront old new text
 texts_failed f i xs d text old mid new before now here out failed =
-  front_failed (f (get_or xs i d)) (flat_map f (drop (i + 1) xs)) text old mid new before now
+    front_failed (f (get_or xs i d)) (flat_map f (drop (i + 1) xs)) text old mid new before now
     (let P : List ℕ → Type 0 = λ rest. IsFrontOut rest text old mid before now in subst P (texts_at f i xs d here) out) failed
 
 pub texts_all : {X : Type 0} (f : X → List ℕ) (i : ℕ) (xs : List X) (text : List ℕ) (old new : Option (List ℕ)) (before now : ℕ) → length xs ≤ i → IsFrontOut (flat_map f (drop i xs)) text old new before now → new ≡ appended old text
 texts_all f i xs text old new before now past out =
-  front_all text old new before now
+    front_all text old new before now
     (let P : List ℕ → Type 0 = λ rest. IsFrontOut rest text old new before now in subst P (ap (flat_map f) (drop_all i xs past)) out)
 
 -- a piece of a list of pieces at a place, and the pieces after it
@@ -161,22 +161,22 @@ on_err (Err d) P e p = p
 -- a loop over pieces: held is gathered, and one more piece goes behind it
 pub gathered_more : {X : Type 0} (f : X → List ℕ) (i : ℕ) (xs : List X) (d : X) (held now_held text : List ℕ) (old mid new : Option (List ℕ)) (before now after : ℕ) → i < length xs → IsFrontOut (held ++ joined (map f (drop i xs))) text old mid before now → Gathers held now_held (f (get_or xs i d)) mid new now after → IsFrontOut (now_held ++ joined (map f (drop (i + 1) xs))) text old new before after
 gathered_more f i xs d held now_held text old mid new before now after here front g =
-  let rest = joined (map f (drop (i + 1) xs)) in
-  let same : held ++ joined (map f (drop i xs)) ≡ g.out ++ (now_held ++ rest) = ap (λ t. held ++ t) (pieces_at f i xs d here) ∙ sym (append_assoc held (f (get_or xs i d)) rest) ∙ ap (λ t. t ++ rest) (sym g.whole) ∙ append_assoc g.out now_held rest in
-  front_more g.out (now_held ++ rest) text old mid new before now after (let P : List ℕ → Type 0 = λ r. IsFrontOut r text old mid before now in subst P same front) g.written g.faultless
+    let rest = joined (map f (drop (i + 1) xs)) in
+    let same : held ++ joined (map f (drop i xs)) ≡ g.out ++ (now_held ++ rest) = ap (λ t. held ++ t) (pieces_at f i xs d here) ∙ sym (append_assoc held (f (get_or xs i d)) rest) ∙ ap (λ t. t ++ rest) (sym g.whole) ∙ append_assoc g.out now_held rest in
+    front_more g.out (now_held ++ rest) text old mid new before now after (let P : List ℕ → Type 0 = λ r. IsFrontOut r text old mid before now in subst P same front) g.written g.faultless
 
 pub gathered_failed : {X : Type 0} (f : X → List ℕ) (i : ℕ) (xs : List X) (d : X) (held text : List ℕ) (old mid new : Option (List ℕ)) (before now : ℕ) → i < length xs → IsFrontOut (held ++ joined (map f (drop i xs))) text old mid before now → WroteFront mid new (held ++ f (get_or xs i d)) → WroteFront old new text
 gathered_failed f i xs d held text old mid new before now here front failed =
-  let rest = joined (map f (drop (i + 1) xs)) in
-  let same : held ++ joined (map f (drop i xs)) ≡ (held ++ f (get_or xs i d)) ++ rest = ap (λ t. held ++ t) (pieces_at f i xs d here) ∙ sym (append_assoc held (f (get_or xs i d)) rest) in
-  front_failed (held ++ f (get_or xs i d)) rest text old mid new before now (let P : List ℕ → Type 0 = λ r. IsFrontOut r text old mid before now in subst P same front) failed
+    let rest = joined (map f (drop (i + 1) xs)) in
+    let same : held ++ joined (map f (drop i xs)) ≡ (held ++ f (get_or xs i d)) ++ rest = ap (λ t. held ++ t) (pieces_at f i xs d here) ∙ sym (append_assoc held (f (get_or xs i d)) rest) in
+    front_failed (held ++ f (get_or xs i d)) rest text old mid new before now (let P : List ℕ → Type 0 = λ r. IsFrontOut r text old mid before now in subst P same front) failed
 
 -- what is gathered at the end is the rest of the text
 pub gathered_last : {A : Type 0} (r : Result A Failed) (held text : List ℕ) (old mid new : Option (List ℕ)) (before now after : ℕ) → IsFrontOut (held ++ []) text old mid before now → Writes r held mid new now after → Writes r text old new before after
 gathered_last (Ok x) held text old mid new before now after front w =
-  (front_all text old new before after (front_more held [] text old mid new before now after front w.0 w.1), w.1 ∙ front.faultless)
+    (front_all text old new before after (front_more held [] text old mid new before now after front w.0 w.1), w.1 ∙ front.faultless)
 gathered_last (Err e) held text old mid new before now after front w =
-  (front_failed held [] text old mid new before now front w.0, rose_since before now after front.faultless w.1)
+    (front_failed held [] text old mid new before now front w.0, rose_since before now after front.faultless w.1)
 
 -- what carries a text of several parts through its writes
 pub ruleset chain = (first_failed, later_failed, both_out, writes_after, rose_since, failed_writes)

@@ -11,7 +11,7 @@ returns-in_err-put_powers g c = λ t stands.
     let some : 0 < c.rows-rows.result = omega arith in
     let lines = are_lines (map (unshifted (shape_of c.args.field.now).signed)) rs c.rows-rows.result c.powers-powers.result c.moments_of-moments.result.variance c.moments_of-moments.result.third (c.rows-rows.ensures.table t stands c.args.cell c.requires.cell_in) some (c.powers-powers.ensures t stands) (c.moments_of-moments.ensures.variance t stands) (c.moments_of-moments.ensures.third t stands) in
     rw (lines.first, lines.second, lines.last)
-      (failed_writes _ _ _ _ _ _ _ c.from_residual.ensures.1 (first_failed _ _ _ _ c.in_err-put_powers.ensures.0) c.in_err-put_powers.ensures.1)
+    (failed_writes _ _ _ _ _ _ _ c.from_residual.ensures.1 (first_failed _ _ _ _ c.in_err-put_powers.ensures.0) c.in_err-put_powers.ensures.1)
 
 pub returns-in_err-put_variance : goal.returns-in_err-put_variance
 returns-in_err-put_variance g c = λ t stands.
@@ -19,9 +19,9 @@ returns-in_err-put_variance g c = λ t stands.
     let some : 0 < c.rows-rows.result = omega arith in
     let lines = are_lines (map (unshifted (shape_of c.args.field.now).signed)) rs c.rows-rows.result c.powers-powers.result c.moments_of-moments.result.variance c.moments_of-moments.result.third (c.rows-rows.ensures.table t stands c.args.cell c.requires.cell_in) some (c.powers-powers.ensures t stands) (c.moments_of-moments.ensures.variance t stands) (c.moments_of-moments.ensures.third t stands) in
     rw (lines.first, lines.second, lines.last)
-      (failed_writes _ _ _ _ _ _ _ c.from_residual-in_err-put_variance.ensures.1
-        (later_failed _ _ _ _ _ c.in_ok-put_powers.ensures.0 (first_failed _ _ _ _ c.in_err-put_variance.ensures.0))
-        (rose_since _ _ _ c.in_ok-put_powers.ensures.1 c.in_err-put_variance.ensures.1))
+    (failed_writes _ _ _ _ _ _ _ c.from_residual-in_err-put_variance.ensures.1
+    (later_failed _ _ _ _ _ c.in_ok-put_powers.ensures.0 (first_failed _ _ _ _ c.in_err-put_variance.ensures.0))
+    (rose_since _ _ _ c.in_ok-put_powers.ensures.1 c.in_err-put_variance.ensures.1))
 
 pub returns : goal.returns
 returns g c = λ t stands.
@@ -29,5 +29,5 @@ returns g c = λ t stands.
     let some : 0 < c.rows-rows.result = omega arith in
     let lines = are_lines (map (unshifted (shape_of c.args.field.now).signed)) rs c.rows-rows.result c.powers-powers.result c.moments_of-moments.result.variance c.moments_of-moments.result.third (c.rows-rows.ensures.table t stands c.args.cell c.requires.cell_in) some (c.powers-powers.ensures t stands) (c.moments_of-moments.ensures.variance t stands) (c.moments_of-moments.ensures.third t stands) in
     rw (lines.first, lines.second, lines.last)
-      (writes_after _ _ _ _ _ _ _ _ _ c.in_ok-put_powers.ensures.0 c.in_ok-put_powers.ensures.1
-        (writes_after _ _ _ _ _ _ _ _ _ c.in_ok-put_variance.ensures.0 c.in_ok-put_variance.ensures.1 c.put_third.ensures))
+    (writes_after _ _ _ _ _ _ _ _ _ c.in_ok-put_powers.ensures.0 c.in_ok-put_powers.ensures.1
+    (writes_after _ _ _ _ _ _ _ _ _ c.in_ok-put_variance.ensures.0 c.in_ok-put_variance.ensures.1 c.put_third.ensures))

@@ -9,10 +9,10 @@ returns-in_err-put_step_start g c = rw (step_line-split c.args.study.now c.args.
 pub returns-in_err-put_field : goal.returns-in_err-put_field
 returns-in_err-put_field g c = rw (step_line-split c.args.study.now c.args.step c.args.field c.args.cell c.args.groups)
     (failed_writes _ _ _ _ _ _ _ c.from_residual-in_err-put_field.ensures.1
-      (later_failed _ _ _ _ _ c.in_ok-put_step_start.ensures.0 (first_failed _ _ _ _ c.in_err-put_field.ensures.0))
-      (rose_since _ _ _ c.in_ok-put_step_start.ensures.1 c.in_err-put_field.ensures.1))
+    (later_failed _ _ _ _ _ c.in_ok-put_step_start.ensures.0 (first_failed _ _ _ _ c.in_err-put_field.ensures.0))
+    (rose_since _ _ _ c.in_ok-put_step_start.ensures.1 c.in_err-put_field.ensures.1))
 
 pub returns : goal.returns
 returns g c = rw (step_line-split c.args.study.now c.args.step c.args.field c.args.cell c.args.groups)
     (writes_after _ _ _ _ _ _ _ _ _ c.in_ok-put_step_start.ensures.0 c.in_ok-put_step_start.ensures.1
-      (writes_after _ _ _ _ _ _ _ _ _ c.in_ok-put_field.ensures.0 c.in_ok-put_field.ensures.1 c.put_cell_words.ensures))
+    (writes_after _ _ _ _ _ _ _ _ _ c.in_ok-put_field.ensures.0 c.in_ok-put_field.ensures.1 c.put_cell_words.ensures))

@@ -9,10 +9,10 @@ returns-in_err-put_sizes g c = rw (study_line-split c.args.study.now)
 pub returns-in_err-put_fields : goal.returns-in_err-put_fields
 returns-in_err-put_fields g c = rw (study_line-split c.args.study.now)
     (failed_writes _ _ _ _ _ _ _ c.from_residual-in_err-put_fields.ensures.1
-      (later_failed _ _ _ _ _ c.in_ok-put_sizes.ensures.0 (first_failed _ _ _ _ c.in_err-put_fields.ensures.0))
-      (rose_since _ _ _ c.in_ok-put_sizes.ensures.1 c.in_err-put_fields.ensures.1))
+    (later_failed _ _ _ _ _ c.in_ok-put_sizes.ensures.0 (first_failed _ _ _ _ c.in_err-put_fields.ensures.0))
+    (rose_since _ _ _ c.in_ok-put_sizes.ensures.1 c.in_err-put_fields.ensures.1))
 
 pub returns : goal.returns
 returns g c = rw (study_line-split c.args.study.now)
     (writes_after _ _ _ _ _ _ _ _ _ c.in_ok-put_sizes.ensures.0 c.in_ok-put_sizes.ensures.1
-      (writes_after _ _ _ _ _ _ _ _ _ c.in_ok-put_fields.ensures.0 c.in_ok-put_fields.ensures.1 c.put_line_end.ensures))
+    (writes_after _ _ _ _ _ _ _ _ _ c.in_ok-put_fields.ensures.0 c.in_ok-put_fields.ensures.1 c.put_line_end.ensures))

@@ -1,7 +1,6 @@
-use Rattle.std.proofs.Common.{◌≡◌, ℕ, ◌+◌, ◌++◌, ◌∷◌, [], List, length, refl, sym, ap, ◌∙◌, arith}
+use Rattle.std.proofs.Common.{◌++◌, List, refl, sym, ap, ◌∙◌, arith}
 use Rattle.std.proofs.lemmas.List.{append-nil}
 use Rattle.mls_model.specs.Frames.{Frame}
-use Rattle.mls_model.specs.Lanes.{lane_frames}
 use Rattle.mls_frame.specs.Views.{frame_of}
 use Rattle.mls_frame.proofs.Places.{AreBytes-drop}
 use Rattle.mls_tape.specs.Scans.{starts_from}

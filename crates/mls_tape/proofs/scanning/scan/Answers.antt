@@ -1,4 +1,4 @@
-use Rattle.std.proofs.Common.{◌≡◌, ◌+◌, [], length, map, refl, sym, ap, ◌∙◌, arith, List}
+use Rattle.std.proofs.Common.{◌≡◌, length, map, refl, sym, ap, ◌∙◌, arith, List}
 use Rattle.mls_model.specs.Numbers.{joined}
 use Rattle.mls_model.specs.Frames.{Frame, spelling}
 use Rattle.mls_model.specs.Lanes.{lane_frames, lane_rest, end_at}

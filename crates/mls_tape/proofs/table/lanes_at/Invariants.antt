@@ -1,4 +1,4 @@
-use Rattle.std.proofs.Common.{◌≡◌, ◌+◌, ◌≤◌, ◌-◌, length}
+use Rattle.std.proofs.Common.{◌≡◌, ◌+◌, ◌-◌, length}
 use Rattle.mls_model.specs.Lanes.{lanes_at}
 use Rattle.mls_tape.specs.Reading.{all_lane_bytes}
 use Rattle.mls_tape.proofs.Loop.{with_front}

@@ -1,6 +1,6 @@
-use Rattle.std.proofs.Common.{◌≡◌, List, Ok, ap, subst, ◌∙◌, sym, arith}
+use Rattle.std.proofs.Common.{◌≡◌, List, Ok, subst, arith}
 use Rattle.std.proofs.lemmas.Result.{err_from_is_err_and}
-use Rattle.mls_model.specs.Lanes.{LaneBytes, lanes_of, counted}
+use Rattle.mls_model.specs.Lanes.{counted}
 use Rattle.mls_tape.specs.declared.part.Part.{Part}
 use Rattle.mls_tape.specs.Reading.{Fails, all_lane_bytes}
 use Rattle.mls_tape.specs.Scans.{lanes_made, entries_of, all_starts}

@@ -1,4 +1,4 @@
-use Rattle.std.proofs.Common.{◌≡◌, ◌<◌, ◌≤◌, ltb, false, eqb, length, sym, ap, ◌∙◌, arith}
+use Rattle.std.proofs.Common.{eqb, sym, ap, ◌∙◌, arith}
 use Rattle.std.proofs.lemmas.Bool.{le-ltb}
 use Rattle.mls_tape.proofs.Entries.{lane_there, lane_of_rank, no_lane}
 use Rattle.mls_tape.proofs.tape.RefTapeLanes.belongs.Goals as goal

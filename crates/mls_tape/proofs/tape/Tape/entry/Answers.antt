@@ -1,5 +1,4 @@
-use Rattle.std.proofs.Common.{◌≡◌, List, length, get_or, Some, sym, ap, subst, ◌∙◌, arith}
-use Rattle.mls_model.specs.Numbers.{element}
+use Rattle.std.proofs.Common.{◌≡◌, List, length, get_or, ap, ◌∙◌, arith}
 use Rattle.mls_model.specs.Lanes.{Lane}
 use Rattle.mls_tape.specs.declared.scanning.Entry.{Entry}
 use Rattle.mls_tape.specs.Scans.{lanes_in, entries_of}

@@ -1,9 +1,6 @@
-use Rattle.std.proofs.Common.{◌≡◌, ℕ, List, Some, length, drop, sym, ap, subst, ◌∙◌, arith}
-use Rattle.mls_model.specs.declared.lanes.LaneKind.{LaneKind}
-use Rattle.mls_model.specs.Frames.{Frame, spelling, sight, whole}
+use Rattle.std.proofs.Common.{◌≡◌, ℕ, List, length, drop, ap, ◌∙◌}
+use Rattle.mls_model.specs.Frames.{spelling, sight}
 use Rattle.mls_frame.specs.Views.{frame_of}
-use Rattle.mls_tape.specs.Events.{DecodedEvent, IsToldEvent}
-use Rattle.mls_tape.specs.Tapes.{told_lane}
 use Rattle.mls_tape.proofs.Entries.{in_lanes, event_there, event_is, told_event, is_whole}
 use Rattle.mls_tape.proofs.tape.Tape.event.Goals as goal
 

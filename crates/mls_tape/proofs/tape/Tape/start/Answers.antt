@@ -1,6 +1,6 @@
-use Rattle.std.proofs.Common.{◌≡◌, ℕ, ◌+◌, ◌<◌, ◌≤◌, List, length, drop, get_or, Some, sym, ap, subst, ◌∙◌, arith}
+use Rattle.std.proofs.Common.{◌≡◌, ℕ, ◌+◌, ◌≤◌, List, length, drop, get_or, ap, subst, ◌∙◌, arith}
 use Rattle.std.proofs.lemmas.List.{get_or_read}
-use Rattle.mls_model.specs.Frames.{Frame, spelling, sight, whole}
+use Rattle.mls_model.specs.Frames.{spelling, sight, whole}
 use Rattle.mls_model.specs.Lanes.{Lane}
 use Rattle.mls_tape.specs.declared.scanning.Entry.{Entry}
 use Rattle.mls_tape.specs.Scans.{lanes_in, entries_of, AreAllStarts}
