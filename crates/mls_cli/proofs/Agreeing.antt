@@ -82,8 +82,8 @@ words_refused [] = tt
 words_refused (command ∷ names) = either (bytes_eq command (codes "fold")) _ _ (fold_refused names) (either (is_later_command command) _ _ tt tt)
 
 refusal_answers : (held : Names) (names : Result FoldNames Status) (old : Option (List ℕ)) (s : Status) → IsWordRefusal (Err s) → names ≡ Err s → Answers (names >>= right_fold held) old old s
-refusal_answers held names old status.Usage h is = (ap (λ o. o >>= right_fold held) is , refl)
-refusal_answers held names old (status.NotBuilt part) h is = (ap (λ o. o >>= right_fold held) is , refl)
+refusal_answers held names old status.Usage h is = (ap (λ o. o >>= right_fold held) is, refl)
+refusal_answers held names old (status.NotBuilt part) h is = (ap (λ o. o >>= right_fold held) is, refl)
 refusal_answers held names old status.Done h is = absurd h
 refusal_answers held names old status.WriteFault h is = absurd h
 refusal_answers held names old status.Memory h is = absurd h

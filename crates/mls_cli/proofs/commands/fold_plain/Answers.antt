@@ -1,5 +1,5 @@
 -- The plain schedule is legal.
-use Rattle.std.proofs.Common.{◌≡◌, sym, subst}
+use Rattle.std.proofs.Common.{sym}
 use Rattle.mls_cli.proofs.commands.fold_plain.Goals as goal
 use Rattle.mls_tape.proofs.Complete.{plain_legal}
 

@@ -1,8 +1,7 @@
 -- The study and the tape of two names, one after the other.
-use Rattle.std.proofs.Common.{◌≡◌, ◌∙◌, refl, ap, sym, subst}
+use Rattle.std.proofs.Common.{◌∙◌}
 use Rattle.std.proofs.lemmas.Result.{err_from_is_err_and}
 use Rattle.mls_cli.proofs.commands.load_inputs.Goals as goal
-use Rattle.mls_cli.specs.Ideal.{right_fold, right_study, right_lanes}
 use Rattle.mls_cli.proofs.Agreeing.{fold_of, fold_refused_study, fold_refused_tape}
 
 pub returns-in_err-study-clause-right : goal.returns-in_err-study-clause-right
