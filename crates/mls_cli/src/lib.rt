@@ -3,6 +3,8 @@
 
 mod commands;
 mod steps;
+#[cfg(test)]
+mod tests;
 mod words;
 
 pub use commands::melissa;
