@@ -28,7 +28,13 @@ fn answer(rt: &HostRuntime, alloc: Global) -> Result<Status, Status> {
     let mut out = StdSink::new(rt);
     match keepers::absent_keepers(alloc) {
         Ok(keepers) => {
-            let (status, _) = mls_cli::melissa(alloc, words.as_slice(), &mut files, &mut out, keepers);
+            let (status, _) = mls_cli::melissa(
+                alloc,
+                words.as_slice(),
+                &mut files,
+                &mut out,
+                keepers,
+            );
             Ok(status)
         }
         Err(_) => Err(Status::Memory),
