@@ -1,0 +1,15 @@
+-- The tape of a name is that of its bytes.
+use Rattle.std.proofs.lemmas.Result.{err_from_is_err_and}
+use Rattle.mls_cli.proofs.steps.load_tape.Goals as goal
+use Rattle.mls_cli.specs.Ideal.{right_lanes, content_lanes}
+use Rattle.mls_cli.proofs.Agreeing.{refused_first, agrees_second}
+
+pub returns-in_err-bytes-clause-right : goal.returns-in_err-bytes-clause-right
+unfolding right_lanes
+returns-in_err-bytes-clause-right g c held told =
+    let p = err_from_is_err_and c.from_residual.result c.from_residual.ensures.1 in
+    rw (p.1, p.2) (refused_first _ _ (content_lanes c.args.study.now) (c.in_err-bytes.ensures.right held told))
+
+pub returns-clause-right : goal.returns-clause-right
+unfolding right_lanes
+returns-clause-right g c held told = agrees_second (λ t. t.lanes) c.tape_in.result _ _ (content_lanes c.args.study.now) (c.in_ok-bytes.ensures.right held told) c.tape_in.ensures.right

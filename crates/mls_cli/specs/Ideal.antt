@@ -1,0 +1,87 @@
+-- What is right: the text that a command writes, or its refusal, from the files that are held.
+use Rattle.std.specs.Prelude.{ℕ, not, ◌||◌, cond, List, length, Option, Some, None, Result, Ok, Err, nat_lt, ◌==◌}
+use Rattle.mls_base.specs.Told.{Names}
+use Rattle.mls_model.specs.declared.studies.Statistic.TheVariants.{Extrema, Exceed, Sobol}
+use Rattle.mls_model.specs.Studies.{Study, shows}
+use Rattle.mls_model.specs.Lanes.{Lane, TapeRefusal, tape_of}
+use Rattle.mls_model.specs.Schedules.{plain}
+use Rattle.mls_model.specs.ResultText.{result_text}
+use Rattle.mls_study.specs.declared.fault.StudyFault.{StudyFault}
+use Rattle.mls_study.specs.StudyFile.{study_of}
+use Rattle.mls_result.specs.declared.status.Status.{Status}
+use Rattle.mls_result.specs.declared.status.Status.TheVariants as status
+use Rattle.mls_result.specs.declared.status.FileRole.{FileRole}
+use Rattle.mls_result.specs.declared.status.FileRole.TheVariants as role
+use Rattle.mls_result.specs.declared.status.Part.{Part}
+use Rattle.mls_result.specs.declared.status.Part.TheVariants as part
+use Rattle.mls_replay.specs.Calm.{is_calm}
+use Rattle.mls_cli.specs.Words.{FoldNames, names_of}
+
+infixl 10 ◌>>=◌
+abbrev pub ◌>>=◌ : {A B : Type 0} → Result A Status → (A → Result B Status) → Result B Status
+(Ok x) >>= f = f x
+(Err e) >>= f = Err e
+
+-- the most bytes of a study and of a tape
+abbrev pub study_limit : ℕ
+study_limit = 65536
+
+abbrev pub tape_limit : ℕ
+tape_limit = 1073741824
+
+-- the bytes of a name, of which there are at most so many
+abbrev pub limited : FileRole → ℕ → Option (List ℕ) → Result (List ℕ) Status
+limited file max None = Err status.ReadFault
+limited file max (Some bytes) = cond (nat_lt max (length bytes)) (Err (status.TooLong file)) (Ok bytes)
+
+abbrev pub study_answer : Result Study StudyFault → Result Study Status
+study_answer (Ok study) = Ok study
+study_answer (Err fault) = Err (status.Study fault)
+
+abbrev pub tape_answer : Result (List Lane) TapeRefusal → Result (List Lane) Status
+tape_answer (Ok lanes) = Ok lanes
+tape_answer (Err refusal) = Err (status.Tape refusal.at refusal.why)
+
+abbrev pub not_built : {A : Type 0} → Part → Result A Status
+not_built p = Err (status.NotBuilt p)
+
+-- a study of one rank and one client that shows power alone
+abbrev pub built_study : Study → Result Study Status
+built_study study =
+    cond (not (study.sizes.ranks == 1)) (not_built part.Ranks)
+    (cond (not (study.sizes.clients == 1)) (not_built part.Clients)
+    (cond (shows study Extrema || (shows study Exceed || shows study Sobol)) (not_built part.Statistics)
+    (Ok study)))
+
+-- a tape without saves and crashes on control lanes
+abbrev pub built_tape : List Lane → Result (List Lane) Status
+built_tape lanes = cond (is_calm lanes) (Ok lanes) (not_built part.Control)
+
+-- the study that bytes spell, where all of it is built
+abbrev pub content_study : List ℕ → Result Study Status
+content_study bytes = study_answer (study_of bytes) >>= built_study
+
+-- the lanes that bytes spell under a study, where all of them are built
+abbrev pub content_lanes : Study → List ℕ → Result (List Lane) Status
+content_lanes study bytes = tape_answer (tape_of study.sizes.ranks study.sizes.signed bytes) >>= built_tape
+
+-- the study of a name
+unfoldable pub right_study : Names → List ℕ → Result Study Status
+right_study files name = limited role.Study study_limit (files name) >>= content_study
+
+-- the lanes of a name
+unfoldable pub right_lanes : Names → Study → List ℕ → Result (List Lane) Status
+right_lanes files study name = limited role.Tape tape_limit (files name) >>= content_lanes study
+
+-- the text of a fold under the plain schedule
+unfoldable pub right_fold : Names → FoldNames → Result (List ℕ) Status
+right_fold files names = do
+  study ← right_study files names.study
+  lanes ← right_lanes files study names.tape
+  Ok (result_text study lanes (plain study.sizes.ranks lanes))
+
+-- what the words ask for: the text, or the first refusal
+unfoldable pub ideal : Names → List (List ℕ) → Result (List ℕ) Status
+ideal files words = do
+  names ← names_of words
+  right_fold files names

@@ -1,0 +1,4 @@
+pub mod Words
+pub mod Ideal
+pub mod Refusals
+pub mod Answers

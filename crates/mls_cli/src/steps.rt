@@ -1,0 +1,207 @@
+//! The steps of a fold up to its inputs.
+
+ghost use Rattle.std.specs.Prelude.{◌≡◌, ◌≤◌, ◌||◌, true, Some, Ok, Err, IfOk, IfErr, OnOk, MatchOption, MatchResult, vec_len, ⊤};
+ghost use Rattle.mls_base.specs.Told.{Names};
+ghost use Rattle.mls_model.specs.declared.studies.Statistic.TheVariants.{Extrema, Exceed, Sobol};
+ghost use Rattle.mls_model.specs.Studies.{shows};
+ghost use Rattle.mls_result.specs.declared.status.Status.TheVariants as status;
+ghost use Rattle.mls_replay.specs.Calm.{is_calm};
+ghost use Rattle.mls_cli.specs.Ideal.{limited, right_study, right_lanes, built_study, built_tape, content_study, content_lanes};
+ghost use Rattle.mls_cli.specs.Refusals.{status_of, study_refusal, Agrees, Counts, IsOfContent, IsBuilt};
+
+use mls_base::faults::LoadFault;
+use mls_base::outside::Files;
+use mls_replay::is_calm;
+use mls_result::{FileRole, Part, Status};
+use mls_study::{Statistic, Study, StudyFault, read_study};
+use mls_tape::{Tape, TapeFault, TapeWhy};
+use std::alloc::Global;
+
+/// The most bytes of a study.
+const STUDY_LIMIT: u64 = 65536;
+
+/// The most bytes of a tape.
+const TAPE_LIMIT: u64 = 1073741824;
+
+/// Why a fold has no inputs.
+#[derive(Debug, Drop)]
+pub(crate) enum Refusal {
+    /// A file could not be read.
+    ReadFault,
+    /// Memory ran out.
+    Memory,
+    /// The study's bytes are refused.
+    Study(StudyFault),
+    /// The tape's bytes are refused at a place.
+    Tape { at: u64, why: TapeWhy },
+    /// The study or the tape asks for what is not built yet.
+    NotBuilt { part: Part },
+    /// A file has more bytes than it may have.
+    TooLong { file: FileRole },
+}
+
+/// What the command answers.
+pub(crate) fn into_status(refusal: Refusal) -> Status
+    ensures { result ≡ status_of refusal }
+{
+    match refusal {
+        Refusal::ReadFault => Status::ReadFault,
+        Refusal::Memory => Status::Memory,
+        Refusal::Study(fault) => Status::Study(fault),
+        Refusal::Tape { at, why } => Status::Tape { at, why },
+        Refusal::NotBuilt { part } => Status::NotBuilt { part },
+        Refusal::TooLong { file } => Status::TooLong { file },
+    }
+}
+
+/// The bytes of a name, at most `max` of them.
+fn load<F: Files>(
+    alloc: Global,
+    files: &mut F,
+    name: &str,
+    max: u64,
+    file: FileRole,
+) -> Result<Vec<u8>, Refusal>
+    ensures right { (held : Names) → F.held files.old ≡ Some held → Agrees (λ bytes. bytes.items) result (limited file max (held name.now)) }
+    ensures within { IfOk result (λ bytes. vec_len bytes ≤ max) }
+    ensures held { OnOk result (F.held files.new ≡ F.held files.old) }
+    ensures loads { MatchResult result (λ _. F.load_faults files.new ≡ F.load_faults files.old) (λ r. Counts r (F.load_faults files.old) (F.load_faults files.new)) }
+    ensures saves { F.save_faults files.new ≡ F.save_faults files.old }
+{
+    match files.load(alloc, name, max) {
+        Ok(bytes) => return Ok(bytes),
+        Err(LoadFault::Failed) => return Err(Refusal::ReadFault),
+        Err(LoadFault::TooLong) => return Err(Refusal::TooLong { file }),
+        Err(LoadFault::Memory) => return Err(Refusal::Memory),
+    }
+}
+
+/// Whether the study shows other statistics than `power`.
+fn shows_more(study: &Study) -> bool
+    ensures { result ≡ (shows study.now Extrema || (shows study.now Exceed || shows study.now Sobol)) }
+{
+    if study.shows(Statistic::Extrema) {
+        return true;
+    }
+    if study.shows(Statistic::Exceed) {
+        return true;
+    }
+    study.shows(Statistic::Sobol)
+}
+
+/// The first part of the study that is not built yet.
+fn missing_part(study: &Study) -> Option<Part>
+    ensures right { MatchOption result (built_study study.now ≡ Ok study.now) (λ part. built_study study.now ≡ Err (status.NotBuilt part)) }
+    ensures built { MatchOption result (IsBuilt study.now) (λ _. ⊤) }
+{
+    let shape = study.shape();
+    if shape.ranks() != 1 {
+        return Some(Part::Ranks);
+    }
+    if shape.clients() != 1 {
+        return Some(Part::Clients);
+    }
+    if shows_more(study) {
+        return Some(Part::Statistics);
+    }
+    None
+}
+
+/// How a command is refused whose study has this fault.
+fn study_refusal(fault: StudyFault) -> Refusal
+    ensures { result ≡ study_refusal fault }
+{
+    match fault {
+        StudyFault::Memory => return Refusal::Memory,
+        fault => return Refusal::Study(fault),
+    }
+}
+
+/// The study, if all that it asks for is built.
+fn if_built(study: Study) -> Result<Study, Refusal>
+    ensures right { Agrees (λ s. s) result (built_study study) }
+    ensures built { IfOk result IsBuilt }
+    ensures content { IfErr result IsOfContent }
+{
+    match missing_part(&study) {
+        Some(part) => return Err(Refusal::NotBuilt { part }),
+        None => return Ok(study),
+    }
+}
+
+/// The study in these bytes.
+fn study_in(alloc: Global, bytes: &[u8]) -> Result<Study, Refusal>
+    ensures right { Agrees (λ s. s) result (content_study bytes.now) }
+    ensures built { IfOk result IsBuilt }
+    ensures content { IfErr result IsOfContent }
+{
+    match read_study(alloc, bytes) {
+        Ok(study) => return if_built(study),
+        Err(fault) => return Err(study_refusal(fault)),
+    }
+}
+
+/// The study of a name.
+pub(crate) fn load_study<F: Files>(
+    alloc: Global,
+    files: &mut F,
+    name: &str,
+) -> Result<Study, Refusal>
+    ensures right { (held : Names) → F.held files.old ≡ Some held → Agrees (λ s. s) result (right_study held name.now) }
+    ensures built { IfOk result IsBuilt }
+    ensures held { OnOk result (F.held files.new ≡ F.held files.old) }
+    ensures loads { MatchResult result (λ _. F.load_faults files.new ≡ F.load_faults files.old) (λ r. Counts r (F.load_faults files.old) (F.load_faults files.new)) }
+    ensures saves { F.save_faults files.new ≡ F.save_faults files.old }
+{
+    let bytes = load(alloc, files, name, STUDY_LIMIT, FileRole::Study)?;
+    study_in(alloc, bytes.as_slice())
+}
+
+/// The tape, if all that it asks for is built.
+fn if_calm(tape: Tape) -> Result<Tape, Refusal>
+    ensures right { Agrees (λ t. t.lanes) result (built_tape tape.lanes) }
+    ensures same { IfOk result (λ t. t ≡ tape) }
+    ensures calm { IfOk result (λ t. is_calm t.lanes ≡ true) }
+    ensures content { IfErr result IsOfContent }
+{
+    if is_calm(&tape) {
+        return Ok(tape);
+    }
+    Err(Refusal::NotBuilt {
+        part: Part::Control,
+    })
+}
+
+/// The tape in these bytes.
+fn tape_in(alloc: Global, study: &Study, bytes: Vec<u8>) -> Result<Tape, Refusal>
+    requires { vec_len bytes ≤ 1073741824 }
+    ensures right { Agrees (λ t. t.lanes) result (content_lanes study.now bytes.items) }
+    ensures ranks { IfOk result (λ t. t.ranks ≡ study.now.sizes.ranks) }
+    ensures calm { IfOk result (λ t. is_calm t.lanes ≡ true) }
+    ensures content { IfErr result IsOfContent }
+{
+    let shape = study.shape();
+    match Tape::read(alloc, shape.ranks(), shape.signed(), bytes) {
+        Ok(tape) => return if_calm(tape),
+        Err(TapeFault::Bad { at, why }) => return Err(Refusal::Tape { at, why }),
+        Err(TapeFault::Memory) => return Err(Refusal::Memory),
+    }
+}
+
+/// The tape of a name, for the study's ranks and samples.
+pub(crate) fn load_tape<F: Files>(
+    alloc: Global,
+    files: &mut F,
+    study: &Study,
+    name: &str,
+) -> Result<Tape, Refusal>
+    ensures right { (held : Names) → F.held files.old ≡ Some held → Agrees (λ t. t.lanes) result (right_lanes held study.now name.now) }
+    ensures ranks { IfOk result (λ t. t.ranks ≡ study.now.sizes.ranks) }
+    ensures calm { IfOk result (λ t. is_calm t.lanes ≡ true) }
+    ensures held { OnOk result (F.held files.new ≡ F.held files.old) }
+    ensures loads { MatchResult result (λ _. F.load_faults files.new ≡ F.load_faults files.old) (λ r. Counts r (F.load_faults files.old) (F.load_faults files.new)) }
+    ensures saves { F.save_faults files.new ≡ F.save_faults files.old }
+{
+    let bytes = load(alloc, files, name, TAPE_LIMIT, FileRole::Tape)?;
+    tape_in(alloc, study, bytes)
+}
