@@ -8,29 +8,100 @@ use std::alloc::{AllocError, Global};
 const STUDY: &[u8] =
     b"cells = 1\nsteps = 1\ngroups = 2\nstatistics = [\"power\"]\n[[parameters]]\nname = \"x\"\nlow = 0\nhigh = 9\n";
 
-// Two clients in place of one.
+const SIGNED: &[u8] =
+    b"cells = 1\nsteps = 1\ngroups = 2\nsamples = \"i16\"\nstatistics = [\"power\"]\n[[parameters]]\nname = \"x\"\nlow = 0\nhigh = 9\n";
+
+const FIELDS: &[u8] =
+    b"cells = 1\nsteps = 1\ngroups = 2\nfields = [\"u\", \"v\"]\nstatistics = [\"power\"]\n[[parameters]]\nname = \"x\"\nlow = 0\nhigh = 9\n";
+
 const TWO_CLIENTS: &[u8] =
     b"cells = 2\nsteps = 1\ngroups = 2\nclients = 2\nstatistics = [\"power\"]\n[[parameters]]\nname = \"x\"\nlow = 0\nhigh = 9\n";
 
-// Group 0 with samples 1, 3, 3 and group 1 with samples 5, 1, 1.
-const TWO_GROUPS: [u8; 87] = [
-    77, 84, 65, 80, 0, 1, 0, 0, 0, 1, 0, 0, 0, 0, 0, 0, 70, 0, 0, 0, 31, 1, 0, 0, 0, 1, 0, 0, 0, 0,
-    0, 0, 0, 0, 0, 0, 0, 3, 0, 0, 0, 0, 0, 0, 0, 1, 0, 1, 0, 3, 0, 3, 0, 0, 0, 31, 1, 0, 0, 0, 1,
-    0, 0, 0, 1, 0, 0, 0, 0, 0, 0, 0, 3, 0, 0, 0, 0, 0, 0, 0, 1, 0, 5, 0, 1, 0, 1,
+const MOST_GROUPS: &[u8] =
+    b"cells = 1\nsteps = 1\ngroups = 65535\nstatistics = [\"power\"]\n[[parameters]]\nname = \"x\"\nlow = 0\nhigh = 9\n";
+
+const MOST_SIGNED: &[u8] =
+    b"cells = 1\nsteps = 1\ngroups = 65535\nsamples = \"i16\"\nstatistics = [\"power\"]\n[[parameters]]\nname = \"x\"\nlow = 0\nhigh = 9\n";
+
+// What stands before the length of the only lane, a client's of rank 0.
+const HEAD: &[u8] = &[77, 84, 65, 80, 0, 1, 0, 0, 0, 1, 0, 0, 0];
+
+const SIGNED_HEAD: &[u8] = &[77, 84, 65, 80, 0, 2, 1, 0, 0, 0, 1, 0, 0, 0];
+
+// Group 0 with samples 1, 3, 3.
+const FIRST: &[u8] = &[
+    0, 0, 0, 31, 1, 0, 0, 0, 1, 0, 0, 0, 0, 0, 0, 0, 0, 0, 0, 0, 3, 0, 0, 0, 0, 0, 0, 0, 1, 0, 1,
+    0, 3, 0, 3,
 ];
 
-// Group 0 with samples 1, 3, 3, twice.
-const REPLAY: [u8; 87] = [
-    77, 84, 65, 80, 0, 1, 0, 0, 0, 1, 0, 0, 0, 0, 0, 0, 70, 0, 0, 0, 31, 1, 0, 0, 0, 1, 0, 0, 0, 0,
-    0, 0, 0, 0, 0, 0, 0, 3, 0, 0, 0, 0, 0, 0, 0, 1, 0, 1, 0, 3, 0, 3, 0, 0, 0, 31, 1, 0, 0, 0, 1,
-    0, 0, 0, 0, 0, 0, 0, 0, 0, 0, 0, 3, 0, 0, 0, 0, 0, 0, 0, 1, 0, 1, 0, 3, 0, 3,
+// Group 1 with samples 5, 1, 1.
+const SECOND: &[u8] = &[
+    0, 0, 0, 31, 1, 0, 0, 0, 1, 0, 0, 0, 1, 0, 0, 0, 0, 0, 0, 0, 3, 0, 0, 0, 0, 0, 0, 0, 1, 0, 5,
+    0, 1, 0, 1,
 ];
 
-const TWO_GROUPS_TEXT: &[u8] =
-    b"melissa-result 1\nstudy cells 1 steps 1 groups 2 parameters 1 ranks 1 clients 1\nrank 0 accepted 2 kept 0 replay 0 stale 0 repeated 0 foreign 0 0 0 0 0 0\nlane 0 rank 0 client events 2 clean\nstep 0 cell 0 groups 2\npower 10 36 154 708\nvariance 44/12\nthird 144/64\nend\n";
+// Group 0 with samples -1, 3, 3 and group 1 with samples 5, -1, -1.
+const SIGNED_PIECES: &[u8] = &[
+    0, 0, 0, 31, 1, 0, 0, 0, 1, 0, 0, 0, 0, 0, 0, 0, 0, 0, 0, 0, 3, 0, 0, 0, 0, 0, 0, 0, 1, 255,
+    255, 0, 3, 0, 3, 0, 0, 0, 31, 1, 0, 0, 0, 1, 0, 0, 0, 1, 0, 0, 0, 0, 0, 0, 0, 3, 0, 0, 0, 0, 0,
+    0, 0, 1, 0, 5, 255, 255, 255, 255,
+];
 
-const REPLAY_TEXT: &[u8] =
-    b"melissa-result 1\nstudy cells 1 steps 1 groups 2 parameters 1 ranks 1 clients 1\nrank 0 accepted 1 kept 0 replay 1 stale 0 repeated 0 foreign 0 0 0 0 0 0\nlane 0 rank 0 client events 2 clean\nstep 0 cell 0 groups 1\npower 4 10 28 82\nvariance 4/2\nthird 0/8\nend\n";
+// Group 0 with samples 7, 9, 9 in the plane behind the first.
+const SECOND_PLANE: &[u8] = &[
+    0, 0, 0, 31, 1, 0, 0, 0, 1, 0, 0, 0, 0, 0, 0, 0, 1, 0, 0, 0, 3, 0, 0, 0, 0, 0, 0, 0, 1, 0, 7,
+    0, 9, 0, 9,
+];
+
+// A group that the study lacks.
+const OTHER_GROUP: &[u8] = &[
+    0, 0, 0, 31, 1, 0, 0, 0, 1, 0, 0, 0, 2, 0, 0, 0, 0, 0, 0, 0, 3, 0, 0, 0, 0, 0, 0, 0, 1, 0, 1,
+    0, 3, 0, 3,
+];
+
+// Two cells, where the rank has one.
+const TWO_CELLS: &[u8] = &[
+    0, 0, 0, 37, 1, 0, 0, 0, 1, 0, 0, 0, 0, 0, 0, 0, 0, 0, 0, 0, 3, 0, 0, 0, 0, 0, 0, 0, 2, 0, 1,
+    0, 1, 0, 1, 0, 1, 0, 1, 0, 1,
+];
+
+const SAVE: &[u8] = &[0, 0, 0, 1, 4];
+
+/// The parts one after another.
+fn joined(alloc: Global, parts: &[&[u8]]) -> Result<Vec<u8>, AllocError> {
+    let mut bytes = Vec::new(alloc);
+    for part in parts {
+        bytes.extend_from_slice(part)?;
+    }
+    Ok(bytes)
+}
+
+/// The tape whose only lane has these bytes.
+fn tape_of(alloc: Global, head: &[u8], lane: &[u8]) -> Result<Vec<u8>, AllocError> {
+    let length = (lane.len() as u32).to_be_bytes();
+    joined(alloc, &[head, length.as_slice(), lane])
+}
+
+/// The tape of a piece for each group of 65,535, all of whose samples are of these two bytes.
+fn most_groups(alloc: Global, head: &[u8], sample: [u8; 2]) -> Result<Vec<u8>, AllocError> {
+    let mut lane = Vec::new(alloc);
+    for group in 0..65_535_u32 {
+        lane.extend_from_slice(&[0, 0, 0, 31, 1, 0, 0, 0, 1])?;
+        lane.extend_from_slice(group.to_be_bytes().as_slice())?;
+        lane.extend_from_slice(&[0, 0, 0, 0, 0, 0, 0, 3, 0, 0, 0, 0, 0, 0, 0, 1])?;
+        lane.extend_from_slice(sample.as_slice())?;
+        lane.extend_from_slice(sample.as_slice())?;
+        lane.extend_from_slice(sample.as_slice())?;
+    }
+    tape_of(alloc, head, lane.as_slice())
+}
+
+/// The text of a fold of one cell, two groups and no accepted piece.
+fn empty_text(alloc: Global, foreign: &str, lane: &str) -> Result<String, AllocError> {
+    format!(in alloc;
+        "melissa-result 1\nstudy cells 1 steps 1 groups 2 parameters 1 ranks 1 clients 1\nrank 0 accepted 0 kept 0 replay 0 stale 0 repeated 0 foreign {foreign}\nlane 0 rank 0 client events {lane}\nstep 0 cell 0 groups 0\npower -\nvariance -\nthird -\nend\n"
+    )
+}
 
 /// The status of a fold of these bytes and what a sink of so much room holds then.
 fn fold_of(
@@ -62,46 +133,182 @@ fn fold_of(
     Ok((status.number(), Vec::from_slice(alloc, sink.bytes())?))
 }
 
+const TWO_GROUPS_TEXT: &[u8] =
+    b"melissa-result 1\nstudy cells 1 steps 1 groups 2 parameters 1 ranks 1 clients 1\nrank 0 accepted 2 kept 0 replay 0 stale 0 repeated 0 foreign 0 0 0 0 0 0\nlane 0 rank 0 client events 2 clean\nstep 0 cell 0 groups 2\npower 10 36 154 708\nvariance 44/12\nthird 144/64\nend\n";
+
+const CUT_TEXT: &[u8] =
+    b"melissa-result 1\nstudy cells 1 steps 1 groups 2 parameters 1 ranks 1 clients 1\nrank 0 accepted 2 kept 0 replay 0 stale 0 repeated 0 foreign 0 0 0 0 0 0\nlane 0 rank 0 client events 2 cut at 70\nstep 0 cell 0 groups 2\npower 10 36 154 708\nvariance 44/12\nthird 144/64\nend\n";
+
+const BAD_KIND_TEXT: &[u8] =
+    b"melissa-result 1\nstudy cells 1 steps 1 groups 2 parameters 1 ranks 1 clients 1\nrank 0 accepted 2 kept 0 replay 0 stale 0 repeated 0 foreign 0 0 0 0 0 0\nlane 0 rank 0 client events 2 bad-kind at 70\nstep 0 cell 0 groups 2\npower 10 36 154 708\nvariance 44/12\nthird 144/64\nend\n";
+
+const REPLAY_TEXT: &[u8] =
+    b"melissa-result 1\nstudy cells 1 steps 1 groups 2 parameters 1 ranks 1 clients 1\nrank 0 accepted 1 kept 0 replay 1 stale 0 repeated 0 foreign 0 0 0 0 0 0\nlane 0 rank 0 client events 2 clean\nstep 0 cell 0 groups 1\npower 4 10 28 82\nvariance 4/2\nthird 0/8\nend\n";
+
+const SIGNED_TEXT: &[u8] =
+    b"melissa-result 1\nstudy cells 1 steps 1 groups 2 parameters 1 ranks 1 clients 1\nrank 0 accepted 2 kept 0 replay 0 stale 0 repeated 0 foreign 0 0 0 0 0 0\nlane 0 rank 0 client events 2 clean\nstep 0 cell 0 groups 2\npower 6 36 150 708\nvariance 108/12\nthird 240/64\nend\n";
+
+const FIELDS_TEXT: &[u8] =
+    b"melissa-result 1\nstudy cells 1 steps 1 groups 2 parameters 1 ranks 1 clients 1 fields 2\nrank 0 accepted 3 kept 0 replay 0 stale 0 repeated 0 foreign 0 0 0 0 0 0\nlane 0 rank 0 client events 3 clean\nstep 0 field u cell 0 groups 2\npower 10 36 154 708\nvariance 44/12\nthird 144/64\nstep 0 field v cell 0 groups 1\npower 16 130 1072 8962\nvariance 4/2\nthird 0/8\nend\n";
+
+const ONE_FIELD_TEXT: &[u8] =
+    b"melissa-result 1\nstudy cells 1 steps 1 groups 2 parameters 1 ranks 1 clients 1\nrank 0 accepted 2 kept 0 replay 0 stale 0 repeated 0 foreign 0 0 0 1 0 0\nlane 0 rank 0 client events 3 clean\nstep 0 cell 0 groups 2\npower 10 36 154 708\nvariance 44/12\nthird 144/64\nend\n";
+
+const LARGEST_TEXT: &[u8] =
+    b"melissa-result 1\nstudy cells 1 steps 1 groups 65535 parameters 1 ranks 1 clients 1\nrank 0 accepted 65535 kept 0 replay 0 stale 0 repeated 0 foreign 0 0 0 0 0 0\nlane 0 rank 0 client events 65535 clean\nstep 0 cell 0 groups 65535\npower 8589672450 562924184010750 36891236399144501250 2417667177417934889418750\nvariance 0/17179213830\nthird 0/2251696736043000\nend\n";
+
+const LEAST_TEXT: &[u8] =
+    b"melissa-result 1\nstudy cells 1 steps 1 groups 65535 parameters 1 ranks 1 clients 1\nrank 0 accepted 65535 kept 0 replay 0 stale 0 repeated 0 foreign 0 0 0 0 0 0\nlane 0 rank 0 client events 65535 clean\nstep 0 cell 0 groups 65535\npower -4294901760 140735340871680 -4611615649683210240 151113421608819433144320\nvariance 0/17179213830\nthird 0/2251696736043000\nend\n";
+
 #[test]
-fn folds_are_written(rt: HostRuntime) {
+fn lanes_are_folded(rt: HostRuntime) {
+    let alloc = rt.alloc();
+    let cut = [0, 0, 0, 31, 1].as_slice();
+    let other_kind = [0, 0, 0, 31, 9].as_slice();
     let cases = [
         (
             "two groups",
             STUDY,
-            TWO_GROUPS.as_slice(),
-            1000,
-            0,
+            HEAD,
+            [FIRST, SECOND, b""],
             TWO_GROUPS_TEXT,
         ),
-        ("replay", STUDY, REPLAY.as_slice(), 1000, 0, REPLAY_TEXT),
+        ("replay", STUDY, HEAD, [FIRST, FIRST, b""], REPLAY_TEXT),
+        ("cut lane", STUDY, HEAD, [FIRST, SECOND, cut], CUT_TEXT),
+        (
+            "other kind",
+            STUDY,
+            HEAD,
+            [FIRST, SECOND, other_kind],
+            BAD_KIND_TEXT,
+        ),
+        (
+            "two fields",
+            FIELDS,
+            HEAD,
+            [FIRST, SECOND, SECOND_PLANE],
+            FIELDS_TEXT,
+        ),
+        (
+            "a plane too many",
+            STUDY,
+            HEAD,
+            [FIRST, SECOND, SECOND_PLANE],
+            ONE_FIELD_TEXT,
+        ),
+        (
+            "signed samples",
+            SIGNED,
+            SIGNED_HEAD,
+            [SIGNED_PIECES, b"", b""],
+            SIGNED_TEXT,
+        ),
+    ];
+    for (name, study, head, parts, text) in cases {
+        let lane = joined(alloc, &parts).expect(&rt, "memory");
+        let tape = tape_of(alloc, head, lane.as_slice()).expect(&rt, "memory");
+        let (number, bytes) = fold_of(alloc, study, tape.as_slice(), 1000).expect(&rt, "memory");
+        assert!(rt; number == 0 && bytes.as_slice() == text, "{name}");
+    }
+}
+
+#[test]
+fn refusals_write_nothing(rt: HostRuntime) {
+    let alloc = rt.alloc();
+    let lane = joined(alloc, &[FIRST, SECOND]).expect(&rt, "memory");
+    let tape = tape_of(alloc, HEAD, lane.as_slice()).expect(&rt, "memory");
+    let cases = [
         (
             "small sink",
             STUDY,
-            TWO_GROUPS.as_slice(),
-            20,
+            tape.as_slice(),
             6,
             b"melissa-result 1\nstu".as_slice(),
         ),
-        ("no tape", STUDY, b"".as_slice(), 1000, 3, b"".as_slice()),
+        ("no tape", STUDY, b"".as_slice(), 3, b"".as_slice()),
         (
             "no study",
             b"".as_slice(),
-            TWO_GROUPS.as_slice(),
-            1000,
+            tape.as_slice(),
             2,
             b"".as_slice(),
         ),
         (
             "two clients",
             TWO_CLIENTS,
-            TWO_GROUPS.as_slice(),
-            1000,
+            tape.as_slice(),
             10,
             b"".as_slice(),
         ),
     ];
-    for (name, study, tape, room, status, text) in cases {
-        let (number, bytes) = fold_of(rt.alloc(), study, tape, room).expect(&rt, "memory");
+    for (name, study, tape, status, text) in cases {
+        let (number, bytes) = fold_of(alloc, study, tape, 20).expect(&rt, "memory");
         assert!(rt; number == status && bytes.as_slice() == text, "{name}");
+    }
+}
+
+#[test]
+fn hostile_lanes_add_nothing(rt: HostRuntime) {
+    let alloc = rt.alloc();
+    let foreign = joined(alloc, &[TWO_CELLS, OTHER_GROUP, SAVE]).expect(&rt, "memory");
+    let cases = [
+        ([0, 0, 0, 0].as_slice(), "0 0 0 0 0 0", "0 bad-length at 0"),
+        (&[4, 0, 0, 1], "0 0 0 0 0 0", "0 bad-length at 0"),
+        (&[0, 0, 0, 1, 10], "0 0 0 0 0 0", "0 bad-kind at 0"),
+        (&[0, 0, 0, 26, 1], "0 0 0 0 0 0", "0 bad-length at 0"),
+        (
+            &[
+                0, 0, 0, 27, 1, 0, 0, 0, 0, 0, 0, 0, 0, 0, 0, 0, 0, 0, 0, 255, 255, 0, 0, 0, 0,
+                255, 255, 255, 255,
+            ],
+            "0 0 0 0 0 0",
+            "0 bad-length at 0",
+        ),
+        (
+            &[
+                0, 0, 0, 25, 1, 0, 0, 0, 0, 0, 0, 0, 0, 0, 0, 0, 0, 0, 0, 0, 0, 0, 0, 0, 0, 0, 0,
+                0, 0,
+            ],
+            "0 1 0 0 0 0",
+            "1 clean",
+        ),
+        (foreign.as_slice(), "1 0 1 0 0 1", "3 clean"),
+    ];
+    for (lane, reasons, end) in cases {
+        let tape = tape_of(alloc, HEAD, lane).expect(&rt, "memory");
+        let text = empty_text(alloc, reasons, end).expect(&rt, "memory");
+        let (number, bytes) = fold_of(alloc, STUDY, tape.as_slice(), 1000).expect(&rt, "memory");
+        assert!(rt;
+            number == 0 && bytes.as_slice() == text.as_bytes(),
+            "{reasons} {end}"
+        );
+    }
+}
+
+#[test]
+fn cut_pieces_add_nothing(rt: HostRuntime) {
+    let alloc = rt.alloc();
+    let text = empty_text(alloc, "0 0 0 0 0 0", "0 cut at 0").expect(&rt, "memory");
+    for length in 1..35_usize {
+        let tape = tape_of(alloc, HEAD, FIRST.get(..length).unwrap_or(&[])).expect(&rt, "memory");
+        let (number, bytes) = fold_of(alloc, STUDY, tape.as_slice(), 1000).expect(&rt, "memory");
+        assert!(rt;
+            number == 0 && bytes.as_slice() == text.as_bytes(),
+            "{length}"
+        );
+    }
+}
+
+#[test]
+fn largest_and_least_samples(rt: HostRuntime) {
+    let alloc = rt.alloc();
+    let cases = [
+        (MOST_GROUPS, HEAD, [255, 255], LARGEST_TEXT),
+        (MOST_SIGNED, SIGNED_HEAD, [128, 0], LEAST_TEXT),
+    ];
+    for (study, head, sample, text) in cases {
+        let tape = most_groups(alloc, head, sample).expect(&rt, "memory");
+        let (number, bytes) = fold_of(alloc, study, tape.as_slice(), 1000).expect(&rt, "memory");
+        assert!(rt; number == 0 && bytes.as_slice() == text);
     }
 }
