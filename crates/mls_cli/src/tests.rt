@@ -78,8 +78,10 @@ fn joined(alloc: Global, parts: &[&[u8]]) -> Result<Vec<u8>, AllocError> {
 
 /// The tape whose only lane has these bytes.
 fn tape_of(alloc: Global, head: &[u8], lane: &[u8]) -> Result<Vec<u8>, AllocError> {
-    let length = (lane.len() as u32).to_be_bytes();
-    joined(alloc, &[head, length.as_slice(), lane])
+    let Ok(length) = u32::try_from(lane.len()) else {
+        return Err(AllocError);
+    };
+    joined(alloc, &[head, length.to_be_bytes().as_slice(), lane])
 }
 
 /// The tape of a piece for each group of 65,535, all of whose samples are of these two bytes.

@@ -1,0 +1,425 @@
+-- The reader of an events file reads exactly the lines of events.
+use Rattle.std.proofs.Common.{◌≡◌, ℕ, ◌+◌, ◌^◌, ◌<◌, ◌≤◌, Bool, true, false, List, [], ◌∷◌, ◌++◌, length, take, drop, refl, sym, ap, ◌∙◌, subst, inl, inr, arith, append_assoc, length-append, Option, Some, None, Result, Ok, Err}
+use Rattle.std.specs.Prelude.{cond, ◌&&◌, ◌==◌, nat_lt, codes, decimal}
+use Rattle.std.specs.Char.{is_ascii_digit}
+use Rattle.std.specs.List.{prefix_len, AllByRecursion}
+use Rattle.std.specs.Option.{option_and_then}
+use Rattle.std.specs.Str.{all_ascii_digits, bytes_eq, IsUtf8}
+use Rattle.std.specs.Str.Parse.{digits_value, ParsesUnsigned}
+use Rattle.std.proofs.lemmas.Bool.{cases_Bool}
+use Rattle.std.proofs.lemmas.List.{append-nil, take-append-drop}
+use Rattle.std.proofs.lemmas.Str.Parse.{IsNumeralModel, numerals_by_value, tells_all_ascii_digits}
+use Rattle.std.proofs.lemmas.Fmt.{digits_decimal, digits_value-decimal, IsAscii-decimal, parse-decimal}
+use Rattle.std.proofs.lemmas.Str.{IsUtf8-from_ascii}
+use Rattle.std.proofs.lemmas.Slice.Eq.{bytes_eq-Decides}
+use Rattle.mls_launch.specs.declared.launcher.Event.{Event}
+use Rattle.mls_launch.specs.declared.launcher.Event.TheVariants.{Tick, Beat, Done, RankBeat}
+use Rattle.mls_model.specs.Numbers.{same_bytes}
+use Rattle.mls_launch.specs.EventsText.{event_line, IsEvent, events_text, IsRefusedAt}
+use Rattle.mls_launch.specs.EventReading.{after_in, behind, number_of, number_in, number_before, tick_in, rank_in, life_in, event_in}
+use Rattle.mls_launch.proofs.Picking.{eq_same, eq_true, lt_true, lt_yes}
+
+-- lists of bytes that are the same
+same_self : (xs : List ℕ) → same_bytes xs xs ≡ true
+same_self [] = refl
+same_self (x ∷ xs) = ap (λ b. b && same_bytes xs xs) (eq_same x) ∙ same_self xs
+
+both_true : (a b : Bool) → (a && b) ≡ true → (a ≡ true) × (b ≡ true)
+both_true true b t = (refl, t)
+both_true false b t = cc
+
+same_true : (xs ys : List ℕ) → same_bytes xs ys ≡ true → xs ≡ ys
+same_true [] [] t = refl
+same_true [] (y ∷ ys) t = cc
+same_true (x ∷ xs) [] t = cc
+same_true (x ∷ xs) (y ∷ ys) t =
+    let both = both_true (x == y) (same_bytes xs ys) t in
+    ap (λ z. z ∷ xs) (eq_true x y both.0) ∙ ap (λ l. y ∷ l) (same_true xs ys both.1)
+
+-- a front
+pub after_front : (front rest : List ℕ) → after_in front (front ++ rest) ≡ Some rest
+after_front [] rest = refl
+after_front (c ∷ front) rest = ap (λ b. cond b (after_in front (front ++ rest)) None) (eq_same c) ∙ after_front front rest
+
+pub after_found : (front bytes rest : List ℕ) → after_in front bytes ≡ Some rest → bytes ≡ front ++ rest
+after_found [] bytes rest e = cc
+after_found (c ∷ front) [] rest e = cc
+after_found (c ∷ front) (b ∷ bytes) rest e = elim (cases_Bool (c == b)) [
+  | inl t ↦ ap (λ z. z ∷ bytes) (sym (eq_true c b t)) ∙ ap (λ l. c ∷ l) (after_found front bytes rest (sym (ap (λ d. cond d (after_in front bytes) None) t) ∙ e))
+  | inr f ↦ let wrong : None ≡ Some rest = sym (ap (λ d. cond d (after_in front bytes) None) f) ∙ e in cc
+]
+
+take_front : (front rest : List ℕ) → take (length front) (front ++ rest) ≡ front
+take_front [] rest = refl
+take_front (c ∷ front) rest = ap (λ l. c ∷ l) (take_front front rest)
+
+-- none where the bytes begin otherwise
+pub after_none : (front bytes : List ℕ) → (length front ≤ length bytes → take (length front) bytes ≡ front → ⊥) → after_in front bytes ≡ None
+after_none front bytes other = go (after_in front bytes) refl
+  where
+    go : (o : Option (List ℕ)) → after_in front bytes ≡ o → after_in front bytes ≡ None
+    go None e = e
+    go (Some rest) e =
+        let is : bytes ≡ front ++ rest = after_found front bytes rest e in
+        absurd (other (omega (arith, ap length is, length-append front rest)) (ap (take (length front)) is ∙ take_front front rest))
+
+pub after_there : (front bytes : List ℕ) → take (length front) bytes ≡ front → after_in front bytes ≡ Some (drop (length front) bytes)
+after_there front bytes e =
+    ap (after_in front) (sym (take-append-drop (length front) bytes) ∙ ap (λ l. l ++ drop (length front) bytes) e)
+    ∙ after_front front (drop (length front) bytes)
+
+-- digits and numbers
+own : IsNumeralModel (λ ds. all_ascii_digits ds ≡ true) (digits_value 10)
+own = numerals_by_value (λ ds. all_ascii_digits ds ≡ true) tells_all_ascii_digits
+
+below_64 : (n : ℕ) → n < 2 ^ 32 → n < 2 ^ 64
+below_64 n h = omega arith
+
+pub number_of_is : (digits : List ℕ) (n : ℕ) → n < 2 ^ 32 → digits ≡ decimal n → number_of digits ≡ Some n
+unfolding number_of
+number_of_is digits n small e =
+    let value : digits_value 10 digits ≡ n = ap (digits_value 10) e ∙ digits_value-decimal own n (below_64 n small) in
+    ap (λ v. cond (same_bytes (decimal v) digits && nat_lt v (2 ^ 32)) (Some v) None) value
+    ∙ ap (λ l. cond (same_bytes (decimal n) l && nat_lt n (2 ^ 32)) (Some n) None) e
+    ∙ ap (λ b. cond (b && nat_lt n (2 ^ 32)) (Some n) None) (same_self (decimal n))
+    ∙ ap (λ b. cond b (Some n) None) (lt_yes n (2 ^ 32) small)
+
+pub number_of_none : (digits : List ℕ) → ((n : ℕ) → n < 2 ^ 32 → digits ≡ decimal n → ⊥) → number_of digits ≡ None
+unfolding number_of
+number_of_none digits never = elim (cases_Bool (same_bytes (decimal (digits_value 10 digits)) digits && nat_lt (digits_value 10 digits) (2 ^ 32))) [
+  | inl t ↦
+      let both = both_true (same_bytes (decimal (digits_value 10 digits)) digits) (nat_lt (digits_value 10 digits) (2 ^ 32)) t in
+      absurd (never (digits_value 10 digits) (lt_true (digits_value 10 digits) (2 ^ 32) both.1) (sym (same_true (decimal (digits_value 10 digits)) digits both.0)))
+  | inr f ↦ ap (λ b. cond b (Some (digits_value 10 digits)) None) f
+]
+
+number_of_found : (digits : List ℕ) (n : ℕ) → number_of digits ≡ Some n → (digits ≡ decimal n) × (n < 2 ^ 32)
+unfolding number_of
+number_of_found digits n e = elim (cases_Bool (same_bytes (decimal (digits_value 10 digits)) digits && nat_lt (digits_value 10 digits) (2 ^ 32))) [
+  | inl t ↦
+      let both = both_true (same_bytes (decimal (digits_value 10 digits)) digits) (nat_lt (digits_value 10 digits) (2 ^ 32)) t in
+      let is : Some (digits_value 10 digits) ≡ Some n = sym (ap (λ b. cond b (Some (digits_value 10 digits)) None) t) ∙ e in
+      let same : digits_value 10 digits ≡ n = cc in
+      (sym (same_true (decimal (digits_value 10 digits)) digits both.0) ∙ ap decimal same, let P : ℕ → Type 0 = λ k. k < 2 ^ 32 in subst P same (lt_true (digits_value 10 digits) (2 ^ 32) both.1))
+  | inr f ↦ let wrong : None ≡ Some n = sym (ap (λ b. cond b (Some (digits_value 10 digits)) None) f) ∙ e in cc
+]
+
+digits_run : (digits : List ℕ) (c : ℕ) (rest : List ℕ) → all_ascii_digits digits ≡ true → is_ascii_digit c ≡ false → prefix_len is_ascii_digit (digits ++ c ∷ rest) ≡ length digits
+digits_run [] c rest all stop = ap (λ b. cond b (1 + prefix_len is_ascii_digit rest) 0) stop
+digits_run (d ∷ digits) c rest all stop =
+    let both = both_true (is_ascii_digit d) (all_ascii_digits digits) all in
+    ap (λ b. cond b (1 + prefix_len is_ascii_digit (digits ++ c ∷ rest)) 0) both.0
+    ∙ ap (λ k. 1 + k) (digits_run digits c rest both.1 stop)
+    ∙ omega arith
+
+drop_front : (front rest : List ℕ) → drop (length front) (front ++ rest) ≡ rest
+drop_front [] rest = refl
+drop_front (c ∷ front) rest = drop_front front rest
+
+number_in_is : (n c : ℕ) (rest : List ℕ) → n < 2 ^ 32 → is_ascii_digit c ≡ false → number_in (decimal n ++ c ∷ rest) ≡ Some (n, c ∷ rest)
+unfolding number_in
+number_in_is n c rest small stop =
+    let run : prefix_len is_ascii_digit (decimal n ++ c ∷ rest) ≡ length (decimal n) = digits_run (decimal n) c rest (digits_decimal own n (below_64 n small)) stop in
+    let part : ℕ → Option (ℕ × List ℕ) = λ k. option_and_then (λ m. Some (m, drop k (decimal n ++ c ∷ rest))) (number_of (take k (decimal n ++ c ∷ rest))) in
+    ap part run
+    ∙ ap (option_and_then (λ m. Some (m, drop (length (decimal n)) (decimal n ++ c ∷ rest)))) (number_of_is (take (length (decimal n)) (decimal n ++ c ∷ rest)) n small (take_front (decimal n) (c ∷ rest)))
+    ∙ ap (λ l. Some (n, l)) (drop_front (decimal n) (c ∷ rest))
+
+first_or : {A B : Type 0} → A → Option (A × B) → A
+first_or a None = a
+first_or a (Some x) = x.0
+
+second_or : {A B : Type 0} → B → Option (A × B) → B
+second_or b None = b
+second_or b (Some x) = x.1
+
+first_same : {A B : Type 0} (a c : A) (b d : B) → ◌≡◌ {A = Option (A × B)} (Some (a, b)) (Some (c, d)) → a ≡ c
+unfolding first_or
+first_same a c b d e = ap (first_or a) e
+
+second_same : {A B : Type 0} (a c : A) (b d : B) → ◌≡◌ {A = Option (A × B)} (Some (a, b)) (Some (c, d)) → b ≡ d
+unfolding second_or
+second_same a c b d e = ap (second_or b) e
+
+number_in_found : (bytes : List ℕ) (n : ℕ) (rest : List ℕ) → number_in bytes ≡ Some (n, rest) → (bytes ≡ decimal n ++ rest) × (n < 2 ^ 32)
+unfolding number_in
+number_in_found bytes n rest e = go (number_of (take (prefix_len is_ascii_digit bytes) bytes)) refl e
+  where
+    go : (o : Option ℕ) → number_of (take (prefix_len is_ascii_digit bytes) bytes) ≡ o → option_and_then {U = ℕ × List ℕ} (λ (m : ℕ). Some (m, drop (prefix_len is_ascii_digit bytes) bytes)) o ≡ Some (n, rest) → (bytes ≡ decimal n ++ rest) × (n < 2 ^ 32)
+    go None h e = cc
+    go (Some m) h e =
+        let same0 = first_same m n (drop (prefix_len is_ascii_digit bytes) bytes) rest e in
+        let same1 = second_same m n (drop (prefix_len is_ascii_digit bytes) bytes) rest e in
+        let found = number_of_found (take (prefix_len is_ascii_digit bytes) bytes) m h in (
+          sym (take-append-drop (prefix_len is_ascii_digit bytes) bytes)
+              ∙ ap (λ l. l ++ drop (prefix_len is_ascii_digit bytes) bytes) (found.0 ∙ ap decimal same0)
+              ∙ ap (λ l. decimal n ++ l) same1,
+          let P : ℕ → Type 0 = λ k. k < 2 ^ 32 in subst P same0 found.1,
+        )
+
+-- a number before a byte
+number_before_is : (n c : ℕ) (rest : List ℕ) → n < 2 ^ 32 → is_ascii_digit c ≡ false → number_before c (decimal n ++ c ∷ rest) ≡ Some (n, rest)
+unfolding number_before
+number_before_is n c rest small stop =
+    ap (option_and_then (λ (x : ℕ × List ℕ). option_and_then (λ (r : List ℕ). Some (x.0, r)) (after_in (c ∷ []) x.1))) (number_in_is n c rest small stop)
+    ∙ ap (option_and_then (λ (r : List ℕ). Some (n, r))) (after_front (c ∷ []) rest)
+
+number_before_found : (c : ℕ) (bytes : List ℕ) (n : ℕ) (rest : List ℕ) → number_before c bytes ≡ Some (n, rest) → (bytes ≡ decimal n ++ c ∷ rest) × (n < 2 ^ 32)
+unfolding number_before
+number_before_found c bytes n rest e = go (number_in bytes) refl e
+  where
+    there : (m : ℕ) (l : List ℕ) → number_in bytes ≡ Some (m, l) → (o : Option (List ℕ)) → after_in (c ∷ []) l ≡ o → option_and_then {U = ℕ × List ℕ} (λ (r : List ℕ). Some (m, r)) o ≡ Some (n, rest) → (bytes ≡ decimal n ++ c ∷ rest) × (n < 2 ^ 32)
+    there m l h None k e = cc
+    there m l h (Some r) k e =
+        let same0 = first_same m n r rest e in
+        let same1 = second_same m n r rest e in
+        let found = number_in_found bytes m l h in (
+          found.0 ∙ ap (λ q. decimal m ++ q) (after_found (c ∷ []) l r k) ∙ ap (λ z. decimal z ++ c ∷ r) same0 ∙ ap (λ q. decimal n ++ c ∷ q) same1,
+          let P : ℕ → Type 0 = λ z. z < 2 ^ 32 in subst P same0 found.1,
+        )
+
+    go : (o : Option (ℕ × List ℕ)) → number_in bytes ≡ o → option_and_then {U = ℕ × List ℕ} (λ (x : ℕ × List ℕ). option_and_then {U = ℕ × List ℕ} (λ (r : List ℕ). Some (x.0, r)) (after_in (c ∷ []) x.1)) o ≡ Some (n, rest) → (bytes ≡ decimal n ++ c ∷ rest) × (n < 2 ^ 32)
+    go None h e = cc
+    go (Some (m, l)) h e = there m l h (after_in (c ∷ []) l) refl e
+
+-- what stands behind the words
+tick_in_is : (now : ℕ) (rest : List ℕ) → now < 2 ^ 32 → tick_in (decimal now ++ 10 ∷ rest) ≡ Some (Tick now, rest)
+unfolding tick_in
+tick_in_is now rest small =
+    ap (option_and_then (λ (x : ℕ × List ℕ). Some (Tick x.0, x.1))) (number_before_is now 10 rest small refl)
+
+rank_in_is : (rank now : ℕ) (rest : List ℕ) → rank < 2 ^ 32 → now < 2 ^ 32 → rank_in (decimal rank ++ 32 ∷ (decimal now ++ 10 ∷ rest)) ≡ Some (RankBeat rank now, rest)
+unfolding rank_in
+rank_in_is rank now rest a b =
+    ap (option_and_then (λ (x : ℕ × List ℕ). option_and_then (λ (y : ℕ × List ℕ). Some (RankBeat x.0 y.0, y.1)) (number_before 10 x.1))) (number_before_is rank 32 (decimal now ++ 10 ∷ rest) a refl)
+    ∙ ap (option_and_then (λ (y : ℕ × List ℕ). Some (RankBeat rank y.0, y.1))) (number_before_is now 10 rest b refl)
+
+life_in_is : (event : ℕ → ℕ → ℕ → Event) (group life now : ℕ) (rest : List ℕ) → group < 2 ^ 32 → life < 2 ^ 32 → now < 2 ^ 32 → life_in event (decimal group ++ 32 ∷ (decimal life ++ 32 ∷ (decimal now ++ 10 ∷ rest))) ≡ Some (event group life now, rest)
+unfolding life_in
+life_in_is event group life now rest a b c =
+    ap (option_and_then (λ (x : ℕ × List ℕ). option_and_then (λ (y : ℕ × List ℕ). option_and_then (λ (z : ℕ × List ℕ). Some (event x.0 y.0 z.0, z.1)) (number_before 10 y.1)) (number_before 32 x.1))) (number_before_is group 32 (decimal life ++ 32 ∷ (decimal now ++ 10 ∷ rest)) a refl)
+    ∙ ap (option_and_then (λ (y : ℕ × List ℕ). option_and_then (λ (z : ℕ × List ℕ). Some (event group y.0 z.0, z.1)) (number_before 10 y.1))) (number_before_is life 32 (decimal now ++ 10 ∷ rest) b refl)
+    ∙ ap (option_and_then (λ (z : ℕ × List ℕ). Some (event group life z.0, z.1))) (number_before_is now 10 rest c refl)
+
+two_parts : (a b rest : List ℕ) → (a ++ 32 ∷ (b ++ 10 ∷ [])) ++ rest ≡ a ++ 32 ∷ (b ++ 10 ∷ rest)
+two_parts a b rest = append_assoc a (32 ∷ (b ++ 10 ∷ [])) rest ∙ ap (λ l. a ++ 32 ∷ l) (append_assoc b (10 ∷ []) rest)
+
+three_parts : (a b c rest : List ℕ) → (a ++ 32 ∷ (b ++ 32 ∷ (c ++ 10 ∷ []))) ++ rest ≡ a ++ 32 ∷ (b ++ 32 ∷ (c ++ 10 ∷ rest))
+three_parts a b c rest = append_assoc a (32 ∷ (b ++ 32 ∷ (c ++ 10 ∷ []))) rest ∙ ap (λ l. a ++ 32 ∷ l) (two_parts b c rest)
+
+-- the line of an event is read
+pub event_in_is : (e : Event) (rest : List ℕ) → IsEvent e → event_in (event_line e ++ rest) ≡ Some (e, rest)
+unfolding event_in event_line
+event_in_is (Tick now) rest h = ap tick_in (append_assoc (decimal now) (10 ∷ []) rest) ∙ tick_in_is now rest h
+event_in_is (Beat group life now) rest h =
+    ap (life_in (λ g l n. Beat g l n)) (three_parts (decimal group) (decimal life) (decimal now) rest) ∙ life_in_is (λ g l n. Beat g l n) group life now rest h.0 h.1 h.2
+event_in_is (Done group life now) rest h =
+    ap (life_in (λ g l n. Done g l n)) (three_parts (decimal group) (decimal life) (decimal now) rest) ∙ life_in_is (λ g l n. Done g l n) group life now rest h.0 h.1 h.2
+event_in_is (RankBeat rank now) rest h = ap rank_in (two_parts (decimal rank) (decimal now) rest) ∙ rank_in_is rank now rest h.0 h.1
+
+-- and nothing else is
+tick_in_found : (bytes : List ℕ) (e : Event) (rest : List ℕ) → tick_in bytes ≡ Some (e, rest) → (codes "tick " ++ bytes ≡ event_line e ++ rest) × IsEvent e
+unfolding tick_in event_line
+tick_in_found bytes e rest h = go (number_before 10 bytes) refl h
+  where
+    go : (o : Option (ℕ × List ℕ)) → number_before 10 bytes ≡ o → option_and_then {U = Event × List ℕ} (λ (x : ℕ × List ℕ). Some (Tick x.0, x.1)) o ≡ Some (e, rest) → (codes "tick " ++ bytes ≡ event_line e ++ rest) × IsEvent e
+    go None k h = cc
+    go (Some (now, l)) k h =
+        let same0 = first_same (Tick now) e l rest h in
+        let same1 = second_same (Tick now) e l rest h in
+        let found = number_before_found 10 bytes now l k in
+        let P : Event → Type 0 = λ x. (codes "tick " ++ bytes ≡ event_line x ++ rest) × IsEvent x in
+        subst P same0 (
+          ap (λ q. codes "tick " ++ q) (found.0 ∙ ap (λ q. decimal now ++ 10 ∷ q) same1 ∙ sym (append_assoc (decimal now) (10 ∷ []) rest)),
+          found.1,
+        )
+
+rank_in_found : (bytes : List ℕ) (e : Event) (rest : List ℕ) → rank_in bytes ≡ Some (e, rest) → (codes "rank " ++ bytes ≡ event_line e ++ rest) × IsEvent e
+unfolding rank_in event_line
+rank_in_found bytes e rest h = go (number_before 32 bytes) refl h
+  where
+    there : (rank : ℕ) (l : List ℕ) → number_before 32 bytes ≡ Some (rank, l) → (o : Option (ℕ × List ℕ)) → number_before 10 l ≡ o → option_and_then {U = Event × List ℕ} (λ (y : ℕ × List ℕ). Some (RankBeat rank y.0, y.1)) o ≡ Some (e, rest) → (codes "rank " ++ bytes ≡ event_line e ++ rest) × IsEvent e
+    there rank l j None k h = cc
+    there rank l j (Some (now, m)) k h =
+        let same0 = first_same (RankBeat rank now) e m rest h in
+        let same1 = second_same (RankBeat rank now) e m rest h in
+        let first = number_before_found 32 bytes rank l j in
+        let second = number_before_found 10 l now m k in
+        let P : Event → Type 0 = λ x. (codes "rank " ++ bytes ≡ event_line x ++ rest) × IsEvent x in
+        subst P same0 (
+          ap (λ q. codes "rank " ++ q) (first.0 ∙ ap (λ q. decimal rank ++ 32 ∷ q) (second.0 ∙ ap (λ q. decimal now ++ 10 ∷ q) same1) ∙ sym (two_parts (decimal rank) (decimal now) rest)),
+          (first.1, second.1),
+        )
+
+    go : (o : Option (ℕ × List ℕ)) → number_before 32 bytes ≡ o → option_and_then {U = Event × List ℕ} (λ (x : ℕ × List ℕ). option_and_then {U = Event × List ℕ} (λ (y : ℕ × List ℕ). Some (RankBeat x.0 y.0, y.1)) (number_before 10 x.1)) o ≡ Some (e, rest) → (codes "rank " ++ bytes ≡ event_line e ++ rest) × IsEvent e
+    go None k h = cc
+    go (Some (rank, l)) k h = there rank l k (number_before 10 l) refl h
+
+-- three numbers, whatever event they make
+record Three (event : ℕ → ℕ → ℕ → Event) (bytes : List ℕ) (e : Event) (rest : List ℕ) : Type 0 where
+  group : ℕ
+  life : ℕ
+  now : ℕ
+  event_is : event group life now ≡ e
+  bytes_are : bytes ≡ decimal group ++ 32 ∷ (decimal life ++ 32 ∷ (decimal now ++ 10 ∷ rest))
+  group_fits : group < 2 ^ 32
+  life_fits : life < 2 ^ 32
+  now_fits : now < 2 ^ 32
+
+life_in_found : (event : ℕ → ℕ → ℕ → Event) (bytes : List ℕ) (e : Event) (rest : List ℕ) → life_in event bytes ≡ Some (e, rest) → Three event bytes e rest
+unfolding life_in
+life_in_found event bytes e rest h = go (number_before 32 bytes) refl h
+  where
+    last : (group life : ℕ) (l m : List ℕ) → number_before 32 bytes ≡ Some (group, l) → number_before 32 l ≡ Some (life, m) → (o : Option (ℕ × List ℕ)) → number_before 10 m ≡ o → option_and_then {U = Event × List ℕ} (λ (z : ℕ × List ℕ). Some (event group life z.0, z.1)) o ≡ Some (e, rest) → Three event bytes e rest
+    last group life l m i j None k h = cc
+    last group life l m i j (Some (now, n)) k h =
+        let same0 = first_same (event group life now) e n rest h in
+        let same1 = second_same (event group life now) e n rest h in
+        let first = number_before_found 32 bytes group l i in
+        let second = number_before_found 32 l life m j in
+        let third = number_before_found 10 m now n k in
+        record {
+          group = group;
+          life = life;
+          now = now;
+          event_is = same0;
+          bytes_are = first.0 ∙ ap (λ q. decimal group ++ 32 ∷ q) (second.0 ∙ ap (λ q. decimal life ++ 32 ∷ q) (third.0 ∙ ap (λ q. decimal now ++ 10 ∷ q) same1));
+          group_fits = first.1;
+          life_fits = second.1;
+          now_fits = third.1;
+        }
+
+    there : (group : ℕ) (l : List ℕ) → number_before 32 bytes ≡ Some (group, l) → (o : Option (ℕ × List ℕ)) → number_before 32 l ≡ o → option_and_then {U = Event × List ℕ} (λ (y : ℕ × List ℕ). option_and_then {U = Event × List ℕ} (λ (z : ℕ × List ℕ). Some (event group y.0 z.0, z.1)) (number_before 10 y.1)) o ≡ Some (e, rest) → Three event bytes e rest
+    there group l j None k h = cc
+    there group l j (Some (life, m)) k h = last group life l m j k (number_before 10 m) refl h
+
+    go : (o : Option (ℕ × List ℕ)) → number_before 32 bytes ≡ o → option_and_then {U = Event × List ℕ} (λ (x : ℕ × List ℕ). option_and_then {U = Event × List ℕ} (λ (y : ℕ × List ℕ). option_and_then {U = Event × List ℕ} (λ (z : ℕ × List ℕ). Some (event x.0 y.0 z.0, z.1)) (number_before 10 y.1)) (number_before 32 x.1)) o ≡ Some (e, rest) → Three event bytes e rest
+    go None k h = cc
+    go (Some (group, l)) k h = there group l k (number_before 32 l) refl h
+
+beat_found : (bytes : List ℕ) (e : Event) (rest : List ℕ) → life_in (λ g l n. Beat g l n) bytes ≡ Some (e, rest) → (codes "beat " ++ bytes ≡ event_line e ++ rest) × IsEvent e
+unfolding event_line
+beat_found bytes e rest h =
+    let t = life_in_found (λ g l n. Beat g l n) bytes e rest h in
+    let P : Event → Type 0 = λ x. (codes "beat " ++ bytes ≡ event_line x ++ rest) × IsEvent x in
+    subst P t.event_is (
+      ap (λ q. codes "beat " ++ q) (t.bytes_are ∙ sym (three_parts (decimal t.group) (decimal t.life) (decimal t.now) rest)),
+      (t.group_fits, t.life_fits, t.now_fits),
+    )
+
+done_found : (bytes : List ℕ) (e : Event) (rest : List ℕ) → life_in (λ g l n. Done g l n) bytes ≡ Some (e, rest) → (codes "done " ++ bytes ≡ event_line e ++ rest) × IsEvent e
+unfolding event_line
+done_found bytes e rest h =
+    let t = life_in_found (λ g l n. Done g l n) bytes e rest h in
+    let P : Event → Type 0 = λ x. (codes "done " ++ bytes ≡ event_line x ++ rest) × IsEvent x in
+    subst P t.event_is (
+      ap (λ q. codes "done " ++ q) (t.bytes_are ∙ sym (three_parts (decimal t.group) (decimal t.life) (decimal t.now) rest)),
+      (t.group_fits, t.life_fits, t.now_fits),
+    )
+
+found_behind : (bytes word l : List ℕ) (e : Event) (rest : List ℕ) → after_in word bytes ≡ Some l → (word ++ l ≡ event_line e ++ rest) × IsEvent e → (bytes ≡ event_line e ++ rest) × IsEvent e
+found_behind bytes word l e rest k found = (after_found word bytes l k ∙ found.0, found.1)
+
+-- by the word that the bytes begin with
+one_word : (bytes word : List ℕ) (there : List ℕ → Option (Event × List ℕ)) (other : Option (Event × List ℕ)) (e : Event) (rest : List ℕ) → ((l : List ℕ) → there l ≡ Some (e, rest) → (word ++ l ≡ event_line e ++ rest) × IsEvent e) → (other ≡ Some (e, rest) → (bytes ≡ event_line e ++ rest) × IsEvent e) → (o : Option (List ℕ)) → after_in word bytes ≡ o → behind there other o ≡ Some (e, rest) → (bytes ≡ event_line e ++ rest) × IsEvent e
+one_word bytes word there other e rest read else_read None k h = else_read h
+one_word bytes word there other e rest read else_read (Some l) k h = found_behind bytes word l e rest k (read l h)
+
+pub event_in_found : (bytes : List ℕ) (e : Event) (rest : List ℕ) → event_in bytes ≡ Some (e, rest) → (bytes ≡ event_line e ++ rest) × IsEvent e
+unfolding event_in
+event_in_found bytes e rest h =
+    one_word bytes (codes "tick ") tick_in _ e rest (λ l k. tick_in_found l e rest k)
+    (λ k. one_word bytes (codes "beat ") (life_in (λ g l n. Beat g l n)) _ e rest (λ l j. beat_found l e rest j)
+    (λ j. one_word bytes (codes "done ") (life_in (λ g l n. Done g l n)) _ e rest (λ l i. done_found l e rest i)
+    (λ i. one_word bytes (codes "rank ") rank_in None e rest (λ l q. rank_in_found l e rest q) (λ q. cc) (after_in (codes "rank ") bytes) refl i)
+    (after_in (codes "done ") bytes) refl j)
+    (after_in (codes "beat ") bytes) refl k)
+    (after_in (codes "tick ") bytes) refl h
+
+-- The events so far are read, and the rest is left.
+pub record IsRead (bytes : List ℕ) (events : List Event) (rest : List ℕ) : Type 0 where
+  pub is_text : bytes ≡ events_text events ++ rest
+  pub events_fit : AllByRecursion IsEvent events
+  pub few : (length events + length rest) ≤ length bytes
+
+pub none_read : (bytes : List ℕ) → IsRead bytes [] bytes
+unfolding events_text
+none_read bytes = record { is_text = refl; events_fit = tt; few = omega arith }
+
+line_some : (e : Event) → 0 < length (event_line e)
+unfolding event_line
+line_some (Tick now) = omega arith
+line_some (Beat group life now) = omega arith
+line_some (Done group life now) = omega arith
+line_some (RankBeat rank now) = omega arith
+
+text_push : (events : List Event) (e : Event) → events_text (events ++ e ∷ []) ≡ events_text events ++ event_line e
+unfolding events_text
+text_push [] e = append-nil (event_line e)
+text_push (x ∷ events) e = ap (λ l. event_line x ++ l) (text_push events e) ∙ sym (append_assoc (event_line x) (events_text events) (event_line e))
+
+fit_push : (events : List Event) (e : Event) → AllByRecursion IsEvent events → IsEvent e → AllByRecursion IsEvent (events ++ e ∷ [])
+fit_push [] e all h = (h, tt)
+fit_push (x ∷ events) e all h = (all.0, fit_push events e all.1 h)
+
+pub one_read : (bytes : List ℕ) (events : List Event) (rest : List ℕ) (e : Event) (after : List ℕ) → IsRead bytes events rest → event_in rest ≡ Some (e, after) → IsRead bytes (events ++ e ∷ []) after
+one_read bytes events rest e after r h =
+    let found = event_in_found rest e after h in
+    record {
+      is_text = r.is_text ∙ ap (λ l. events_text events ++ l) found.0 ∙ sym (append_assoc (events_text events) (event_line e) after) ∙ ap (λ l. l ++ after) (sym (text_push events e));
+      events_fit = fit_push events e r.events_fit found.1;
+      few = omega (arith, r.few, ap length found.0, length-append (event_line e) after, line_some e, length-append events (e ∷ []));
+    }
+
+-- a line makes the rest shorter
+pub shorter : (rest : List ℕ) (e : Event) (after : List ℕ) → event_in rest ≡ Some (e, after) → length after < length rest
+shorter rest e after h =
+    let found = event_in_found rest e after h in
+    omega (arith, ap length found.0, length-append (event_line e) after, line_some e)
+
+pub all_read : (bytes : List ℕ) (events : List Event) (rest : List ℕ) → IsRead bytes events rest → length rest ≡ 0 → bytes ≡ events_text events
+all_read bytes events [] r e = r.is_text ∙ append-nil (events_text events)
+all_read bytes events (b ∷ rest) r e = absurd (omega arith)
+
+pub refused : (bytes : List ℕ) (events : List Event) (rest : List ℕ) (line : ℕ) → IsRead bytes events rest → 0 < length rest → event_in rest ≡ None → line ≡ length events + 1 → IsRefusedAt bytes line
+refused bytes events rest line r some none is = record {
+  before = events;
+  rest = rest;
+  is_text = r.is_text;
+  line_is = is;
+  some = some;
+  events_fit = r.events_fit;
+  no_event = λ e fits after same.
+      let read : event_in rest ≡ Some (e, after) = ap event_in same ∙ event_in_is e after fits in
+      let wrong : None ≡ Some (e, after) = sym none ∙ read in
+      cc;
+}
+
+-- what the steps of the reader of a number know
+pub decimal_utf8 : (digits : List ℕ) (n : ℕ) → n < 2 ^ 32 → digits ≡ decimal n → IsUtf8 digits
+decimal_utf8 digits n small e = subst (λ l. IsUtf8 l) (sym e) (IsUtf8-from_ascii (decimal n) (IsAscii-decimal n (below_64 n small)))
+
+pub not_parsed : {E : Type 0} (digits text : List ℕ) (r : Result ℕ E) (why : E) → ParsesUnsigned 32 10 text r → text ≡ digits → r ≡ Err why → (n : ℕ) → n < 2 ^ 32 → digits ≡ decimal n → ⊥
+not_parsed digits text r why parses same failed n small e =
+    let is : r ≡ Ok n = parse-decimal 32 n text r small (below_64 n small) (same ∙ e) parses in
+    cc
+
+pub parsed_other : {E : Type 0} (digits text : List ℕ) (r : Result ℕ E) (m : ℕ) → ParsesUnsigned 32 10 text r → text ≡ digits → r ≡ Ok m → (digits ≡ decimal m → ⊥) → (n : ℕ) → n < 2 ^ 32 → digits ≡ decimal n → ⊥
+parsed_other digits text r m parses same read other n small e =
+    let is : r ≡ Ok n = parse-decimal 32 n text r small (below_64 n small) (same ∙ e) parses in
+    let alike : n ≡ m = cc in
+    other (e ∙ ap decimal alike)
+
+pub bytes_true : (xs ys : List ℕ) (r : Bool) → r ≡ bytes_eq xs ys → r ≡ true → xs ≡ ys
+bytes_true xs ys r is t = (bytes_eq-Decides xs ys).0 (sym is ∙ t)
+
+pub bytes_false : (xs ys : List ℕ) (r : Bool) → r ≡ bytes_eq xs ys → r ≡ false → xs ≡ ys → ⊥
+bytes_false xs ys r is f e =
+    let t : bytes_eq xs ys ≡ true = (bytes_eq-Decides xs ys).1 e in
+    cc
+
+pub read_begins : (bytes : List ℕ) (events : List Event) → events ≡ [] → IsRead bytes events bytes
+read_begins bytes events e = subst (λ l. IsRead bytes l bytes) (sym e) (none_read bytes)
+
+pub read_goes_on : (bytes : List ℕ) (events events' : List Event) (rest : List ℕ) (e : Event) (after : List ℕ) → IsRead bytes events rest → event_in rest ≡ Some (e, after) → events' ≡ events ++ e ∷ [] → IsRead bytes events' after
+read_goes_on bytes events events' rest e after r h pushed = subst (λ l. IsRead bytes l after) (sym pushed) (one_read bytes events rest e after r h)

@@ -1,0 +1,14 @@
+use Rattle.mls_launch.specs.declared.launcher.Timed.{Timed}
+use Rattle.mls_launch.specs.WatchText.{action_line, action_lines}
+use Rattle.mls_text.proofs.Writing.{texts_more, texts_failed, rose_since, failed_writes}
+use Rattle.mls_launch.proofs.writing.put_actions.Goals as goal
+
+pub returns-in_err-put_action : goal.returns-in_err-put_action
+unfolding action_lines
+returns-in_err-put_action g c =
+    failed_writes _ _ _ _ _ _ _ c.from_residual.ensures.1
+    (texts_failed (λ (t : Timed). action_line t.time t.action) c.loop-timed.timed-index c.args.lines.now _ _ _ _ _ _ _ c.loop-timed-test.true c.loop-timed.invariant c.in_err-put_action.ensures.0)
+    (rose_since _ _ _ c.loop-timed.invariant.faultless c.in_err-put_action.ensures.1)
+
+pub loop-timed-preserved : goal.loop-timed-preserved
+loop-timed-preserved g c = texts_more (λ (t : Timed). action_line t.time t.action) c.loop-timed.timed-index c.args.lines.now _ _ _ _ _ _ _ _ c.loop-timed-test.true c.loop-timed.invariant c.in_ok-put_action.ensures.0 c.in_ok-put_action.ensures.1

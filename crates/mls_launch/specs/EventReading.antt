@@ -1,0 +1,64 @@
+-- How the lines of an events file are read, from the front of the bytes.
+use Rattle.std.specs.Prelude.{ℕ, ◌^◌, ◌&&◌, cond, List, [], ◌∷◌, take, drop, Option, Some, None, codes, decimal, nat_lt, ◌==◌}
+use Rattle.std.specs.Borrow.{Bor}
+use Rattle.std.specs.Char.{is_ascii_digit}
+use Rattle.std.specs.List.{prefix_len}
+use Rattle.std.specs.Option.{option_and_then}
+use Rattle.std.specs.Str.Parse.{digits_value}
+use Rattle.mls_launch.specs.declared.launcher.Event.{Event}
+use Rattle.mls_launch.specs.declared.launcher.Event.TheVariants.{Tick, Beat, Done, RankBeat}
+use Rattle.mls_model.specs.Numbers.{same_bytes}
+
+-- what was read, with the bytes behind it, wherever they lie in memory
+abbrev pub seen : {A : Type 0} → Option (A × Bor (List ℕ)) → Option (A × List ℕ)
+seen None = None
+seen (Some x) = Some (x.0, x.1.now)
+
+abbrev pub seen_rest : Option (Bor (List ℕ)) → Option (List ℕ)
+seen_rest None = None
+seen_rest (Some rest) = Some rest.now
+
+-- the bytes behind a front
+abbrev pub after_in : List ℕ → List ℕ → Option (List ℕ)
+after_in [] bytes = Some bytes
+after_in (c ∷ front) [] = None
+after_in (c ∷ front) (b ∷ bytes) = cond (c == b) (after_in front bytes) None
+
+-- the number below 2 ^ 32 that digits spell
+unfoldable pub number_of : List ℕ → Option ℕ
+number_of digits = cond (same_bytes (decimal (digits_value 10 digits)) digits && nat_lt (digits_value 10 digits) (2 ^ 32)) (Some (digits_value 10 digits)) None
+
+-- one of two, by whether the bytes begin with a word
+abbrev pub behind : {A : Type 0} → (List ℕ → A) → A → Option (List ℕ) → A
+behind there other None = other
+behind there other (Some rest) = there rest
+
+-- the number that the digits at the front spell
+unfoldable pub number_in : List ℕ → Option (ℕ × List ℕ)
+number_in bytes = option_and_then (λ n. Some (n, drop (prefix_len is_ascii_digit bytes) bytes)) (number_of (take (prefix_len is_ascii_digit bytes) bytes))
+
+-- a number with a byte behind it
+unfoldable pub number_before : ℕ → List ℕ → Option (ℕ × List ℕ)
+number_before end bytes = option_and_then (λ (x : ℕ × List ℕ). option_and_then (λ (rest : List ℕ). Some (x.0, rest)) (after_in (end ∷ []) x.1)) (number_in bytes)
+
+-- what stands behind each of the four words
+unfoldable pub tick_in : List ℕ → Option (Event × List ℕ)
+tick_in bytes = option_and_then (λ (x : ℕ × List ℕ). Some (Tick x.0, x.1)) (number_before 10 bytes)
+
+unfoldable pub rank_in : List ℕ → Option (Event × List ℕ)
+rank_in bytes = option_and_then (λ (x : ℕ × List ℕ). option_and_then (λ (y : ℕ × List ℕ). Some (RankBeat x.0 y.0, y.1)) (number_before 10 x.1)) (number_before 32 bytes)
+
+unfoldable pub life_in : (ℕ → ℕ → ℕ → Event) → List ℕ → Option (Event × List ℕ)
+life_in event bytes = option_and_then (λ (x : ℕ × List ℕ). option_and_then (λ (y : ℕ × List ℕ). option_and_then (λ (z : ℕ × List ℕ). Some (event x.0 y.0 z.0, z.1)) (number_before 10 y.1)) (number_before 32 x.1)) (number_before 32 bytes)
+
+-- the event whose line stands at the front
+unfoldable pub event_in : List ℕ → Option (Event × List ℕ)
+event_in bytes =
+    behind tick_in
+    (behind (life_in (λ group life now. Beat group life now))
+    (behind (life_in (λ group life now. Done group life now))
+    (behind rank_in
+    None (after_in (codes "rank ") bytes))
+    (after_in (codes "done ") bytes))
+    (after_in (codes "beat ") bytes))
+    (after_in (codes "tick ") bytes)

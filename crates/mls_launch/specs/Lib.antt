@@ -1,0 +1,9 @@
+pub mod Pasts
+pub mod Launcher
+pub mod WatchText
+pub mod Rows
+pub mod Safety
+pub mod Examples
+pub mod EventsText
+pub mod EventReading
+pub mod EventFaults

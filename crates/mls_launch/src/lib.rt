@@ -1,0 +1,26 @@
+//! The launcher: which groups and ranks to start, restart or give up, from what was heard of them.
+//!
+//! `specs/` has the definition over whole lists of events; a `Watch` keeps a row for each group and rank.
+#![tactic(auto)]
+
+mod changes;
+mod deciding;
+pub mod examples;
+pub mod faults;
+pub mod launcher;
+pub mod laws;
+pub mod reading;
+mod rows;
+pub mod totals;
+pub mod watch;
+pub mod writing;
+
+pub use faults::OutFault;
+pub use launcher::{Action, Event, Timed};
+pub use reading::{EventFault, read_events};
+pub use totals::Totals;
+pub use watch::Watch;
+pub use writing::write_watch;
+
+#[cfg(test)]
+mod tests;
