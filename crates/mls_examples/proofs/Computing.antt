@@ -11,6 +11,7 @@ use Rattle.mls_model.specs.Completion.{makes_whole, is_completed, completes}
 use Rattle.mls_model.specs.Outcomes.{piece_outcome, outcome, outcomes, tally, counts}
 use Rattle.mls_model.specs.AcceptedRows.{completions, accepted, sample_rows}
 use Rattle.mls_model.specs.Statistics.{variance_top, third_top, covariance}
+use Rattle.mls_model.specs.Designs.{drawn, word, word_of, values, design_line, group_lines, design_text, inputs, solve}
 use Rattle.mls_model.specs.ResultText.{study_line, rank_line, rank_lines, lane_line, lane_lines, step_line, power_line, variance_line, third_line, extrema_line, exceed_line, millionths_words, power_lines, extrema_lines, exceed_lines, rows_of, counts_of, lines_of}
 
 -- what the bytes of a frame, a lane and a tape are
@@ -27,3 +28,8 @@ of_events = tt
 unfoldable pub of_texts : Unit {0}
 unfolding of_events digits schedule_text variance_top third_top covariance study_line rank_line rank_lines lane_line lane_lines step_line power_line variance_line third_line extrema_line exceed_line millionths_words power_lines extrema_lines exceed_lines lines_of
 of_texts = tt
+
+-- what a design has
+unfoldable pub of_designs : Unit {0}
+unfolding digits drawn word word_of values design_line group_lines design_text inputs solve
+of_designs = tt

@@ -7,3 +7,4 @@ pub mod Largest
 pub mod Fields
 pub mod Samples
 pub mod Studies
+pub mod Designs

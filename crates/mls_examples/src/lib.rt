@@ -6,6 +6,7 @@
 
 pub mod assembly;
 pub mod crashes;
+pub mod designs;
 pub mod fields;
 pub mod lanes;
 pub mod samples;

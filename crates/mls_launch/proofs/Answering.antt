@@ -1,8 +1,8 @@
 -- What the answer to silence and a start make of a group's stage and row.
 use Rattle.std.proofs.Common.{◌≡◌, ℕ, zero, suc, ◌+◌, ◌-◌, ◌<◌, ◌≤◌, Bool, true, false, [], ◌∷◌, ◌++◌, refl, sym, ap, ◌∙◌, subst, ltb, arith, add-one}
 use Rattle.std.specs.Prelude.{cond, not, ◌&&◌, ◌||◌, ◌==◌}
-use Rattle.mls_launch.specs.declared.launcher.Action.{Action}
-use Rattle.mls_launch.specs.declared.launcher.Action.TheVariants.{Start, Restart, GiveUp, RestartRank}
+use Rattle.mls_model.specs.declared.launcher.Action.{Action}
+use Rattle.mls_model.specs.declared.launcher.Action.TheVariants.{Start, Restart, GiveUp, RestartRank}
 use Rattle.mls_launch.specs.declared.rows.Row.{Row}
 use Rattle.mls_launch.specs.declared.rows.Row.TheVariants.{Running, GivenUp}
 use Rattle.mls_launch.specs.Safety.{lives_begun}

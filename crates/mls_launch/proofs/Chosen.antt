@@ -7,8 +7,8 @@ use Rattle.std.proofs.Math.Seq.{take-nil}
 use Rattle.std.proofs.lemmas.List.Elements.{filter-append}
 use Rattle.std.specs.Prelude.{cond}
 use Rattle.mls_model.specs.Numbers.{below}
-use Rattle.mls_launch.specs.declared.launcher.Action.{Action}
-use Rattle.mls_launch.specs.declared.launcher.Action.TheVariants.{Start, RestartRank}
+use Rattle.mls_model.specs.declared.launcher.Action.{Action}
+use Rattle.mls_model.specs.declared.launcher.Action.TheVariants.{Start, RestartRank}
 use Rattle.mls_launch.specs.declared.rows.Row.{Row}
 use Rattle.mls_launch.specs.declared.rows.Row.TheVariants.{Waiting}
 use Rattle.mls_launch.specs.Rows.{chosen, ranks_due, groups_due, staying, starts_due, is_due, answer_for, stays_on, is_waiting}

@@ -6,13 +6,14 @@ use Rattle.std.proofs.lemmas.Bool.{cases_Bool}
 use Rattle.std.proofs.lemmas.List.Sums.{length-filter}
 use Rattle.mls_model.specs.Numbers.{below}
 use Rattle.mls_model.specs.Studies.{Sizes, AreSizes}
-use Rattle.mls_launch.specs.declared.launcher.Event.{Event}
+use Rattle.mls_model.specs.declared.launcher.Event.{Event}
 use Rattle.mls_launch.specs.declared.rows.Row.{Row}
 use Rattle.mls_launch.specs.declared.totals.Totals.{Totals}
-use Rattle.mls_launch.specs.Pasts.{Entry, runs, waits, is_finished, is_given_up}
-use Rattle.mls_launch.specs.Launcher.{past_of}
+use Rattle.mls_model.specs.Pasts.{Entry, runs, waits, is_finished, is_given_up}
+use Rattle.mls_model.specs.Launcher.{past_of}
 use Rattle.mls_launch.specs.Rows.{Table, StandsFor, row_of, is_running, is_waiting, is_done, is_left}
-use Rattle.mls_launch.specs.WatchText.{group_count, AreTotals}
+use Rattle.mls_launch.specs.Writing.{AreTotals}
+use Rattle.mls_model.specs.WatchText.{group_count}
 use Rattle.mls_launch.proofs.Facts.{Facts, facts, run_facts, wait_facts}
 use Rattle.mls_launch.proofs.Picking.{same_filter}
 use Rattle.mls_launch.proofs.Stages.{Stage, waiting, over, alive, ended, left, facts_in, Ordered, row_facts}

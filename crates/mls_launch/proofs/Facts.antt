@@ -3,12 +3,12 @@ use Rattle.std.proofs.Common.{◌≡◌, ℕ, suc, Bool, true, false, List, [], 
 use Rattle.std.specs.Prelude.{cond, not, ◌&&◌, ◌||◌, ◌==◌}
 use Rattle.std.specs.List.{filter}
 use Rattle.std.proofs.lemmas.Bool.{cases_Bool}
-use Rattle.mls_launch.specs.declared.launcher.Event.{Event}
-use Rattle.mls_launch.specs.declared.launcher.Event.TheVariants.{Tick, Beat, Done, RankBeat}
-use Rattle.mls_launch.specs.declared.launcher.Action.{Action}
-use Rattle.mls_launch.specs.declared.launcher.Action.TheVariants.{Start, Restart, GiveUp, RestartRank}
-use Rattle.mls_launch.specs.Pasts.{Entry, came, did, time_of, is_of, is_start, begins_life, is_give_up, has_done, life_of, is_given_up, is_finished, beats, last_of, is_rank_restart, rank_last}
-use Rattle.mls_launch.specs.Launcher.{with_actions}
+use Rattle.mls_model.specs.declared.launcher.Event.{Event}
+use Rattle.mls_model.specs.declared.launcher.Event.TheVariants.{Tick, Beat, Done, RankBeat}
+use Rattle.mls_model.specs.declared.launcher.Action.{Action}
+use Rattle.mls_model.specs.declared.launcher.Action.TheVariants.{Start, Restart, GiveUp, RestartRank}
+use Rattle.mls_model.specs.Pasts.{Entry, came, did, time_of, is_of, is_start, begins_life, is_give_up, has_done, life_of, is_given_up, is_finished, beats, last_of, is_rank_restart, rank_last}
+use Rattle.mls_model.specs.Launcher.{with_actions}
 use Rattle.mls_launch.proofs.OwnActions.{group_actions}
 
 pub record Facts : Type 0 where

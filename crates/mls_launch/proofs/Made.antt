@@ -4,8 +4,8 @@ use Rattle.std.proofs.lemmas.List.{length-replicate, get_or-replicate}
 use Rattle.mls_model.specs.Studies.{Sizes}
 use Rattle.mls_launch.specs.declared.rows.Row.{Row}
 use Rattle.mls_launch.specs.declared.rows.Row.TheVariants.{Waiting}
-use Rattle.mls_launch.specs.Pasts.{time_of, has_done, is_finished, rank_last}
-use Rattle.mls_launch.specs.Launcher.{past_after}
+use Rattle.mls_model.specs.Pasts.{time_of, has_done, is_finished, rank_last}
+use Rattle.mls_model.specs.Launcher.{past_after}
 use Rattle.mls_launch.specs.Rows.{row_of, StandsFor}
 use Rattle.mls_launch.proofs.Lookups.{is_made}
 

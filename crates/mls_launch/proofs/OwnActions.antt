@@ -4,12 +4,12 @@ use Rattle.std.specs.Prelude.{cond}
 use Rattle.std.specs.List.{filter}
 use Rattle.std.proofs.lemmas.List.{append-nil, map-append}
 use Rattle.std.proofs.lemmas.List.Elements.{filter-append}
-use Rattle.mls_launch.specs.declared.launcher.Event.{Event}
-use Rattle.mls_launch.specs.declared.launcher.Action.{Action}
-use Rattle.mls_launch.specs.declared.launcher.Timed.{Timed}
+use Rattle.mls_model.specs.declared.launcher.Event.{Event}
+use Rattle.mls_model.specs.declared.launcher.Action.{Action}
+use Rattle.mls_model.specs.declared.launcher.Timed.{Timed}
 use Rattle.mls_model.specs.Studies.{Sizes}
-use Rattle.mls_launch.specs.Pasts.{Entry, came, did, time_of, is_of}
-use Rattle.mls_launch.specs.Launcher.{with_actions, actions_at, past_with, past_after, timed_at, timed_after}
+use Rattle.mls_model.specs.Pasts.{Entry, came, did, time_of, is_of}
+use Rattle.mls_model.specs.Launcher.{with_actions, actions_at, past_with, past_after, timed_at, timed_after}
 use Rattle.mls_launch.specs.Safety.{own_actions}
 
 unfoldable pub group_actions : ℕ → List Entry → List Action

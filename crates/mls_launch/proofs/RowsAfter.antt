@@ -1,7 +1,7 @@
 -- How rows change by one action after another.
 use Rattle.std.proofs.Common.{◌≡◌, ℕ, ◌+◌, ◌<◌, List, [], ◌∷◌, ◌++◌, length, take, refl, ap, ◌∙◌, get_or}
 use Rattle.std.proofs.lemmas.List.{take_more}
-use Rattle.mls_launch.specs.declared.launcher.Action.{Action}
+use Rattle.mls_model.specs.declared.launcher.Action.{Action}
 use Rattle.mls_launch.specs.declared.rows.Row.{Row}
 use Rattle.mls_launch.specs.Rows.{lasts_with, rows_with, lasts_after, rows_after}
 

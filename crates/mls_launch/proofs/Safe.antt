@@ -6,11 +6,11 @@ use Rattle.std.proofs.lemmas.Bool.{cases_Bool, cases_lt}
 use Rattle.std.proofs.lemmas.List.{append-nil}
 use Rattle.mls_model.specs.Numbers.{below}
 use Rattle.mls_model.specs.Studies.{Sizes, AreSizes}
-use Rattle.mls_launch.specs.declared.launcher.Event.{Event}
-use Rattle.mls_launch.specs.declared.launcher.Action.{Action}
-use Rattle.mls_launch.specs.declared.launcher.Action.TheVariants.{Start, Restart, GiveUp, RestartRank}
-use Rattle.mls_launch.specs.Pasts.{Entry, came, time_of, runs, waits, last_of, rank_last}
-use Rattle.mls_launch.specs.Launcher.{with_actions, is_silent, answer_to, rank_restarts, group_answers, running, starts, answers, tick_actions, actions_at, is_tick, past_with, past_after, past_of}
+use Rattle.mls_model.specs.declared.launcher.Event.{Event}
+use Rattle.mls_model.specs.declared.launcher.Action.{Action}
+use Rattle.mls_model.specs.declared.launcher.Action.TheVariants.{Start, Restart, GiveUp, RestartRank}
+use Rattle.mls_model.specs.Pasts.{Entry, came, time_of, runs, waits, last_of, rank_last}
+use Rattle.mls_model.specs.Launcher.{with_actions, is_silent, answer_to, rank_restarts, group_answers, running, starts, answers, tick_actions, actions_at, is_tick, past_with, past_after, past_of}
 use Rattle.mls_launch.specs.Safety.{lives_begun, IsCourse, IsSettled, IsTimely, own_actions}
 use Rattle.mls_launch.proofs.OwnActions.{group_actions, own_are}
 use Rattle.mls_launch.proofs.Facts.{Facts, facts, run_facts, wait_facts, fact_did, fact_finishes, facts_came, time_with_actions, filter_yes, filter_no}

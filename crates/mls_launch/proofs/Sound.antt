@@ -6,10 +6,10 @@ use Rattle.std.proofs.lemmas.Bool.{cases_Bool, cases_lt}
 use Rattle.std.proofs.lemmas.List.{length-take}
 use Rattle.mls_model.specs.Numbers.{below}
 use Rattle.mls_model.specs.Studies.{Sizes}
-use Rattle.mls_launch.specs.declared.launcher.Event.{Event}
-use Rattle.mls_launch.specs.declared.launcher.Action.TheVariants.{Start}
-use Rattle.mls_launch.specs.Pasts.{Entry, came, time_of, has_done, life_of, is_finished, last_of, runs, waits}
-use Rattle.mls_launch.specs.Launcher.{with_actions, running, starts, tick_actions, actions_at, is_tick, past_with, past_after}
+use Rattle.mls_model.specs.declared.launcher.Event.{Event}
+use Rattle.mls_model.specs.declared.launcher.Action.TheVariants.{Start}
+use Rattle.mls_model.specs.Pasts.{Entry, came, time_of, has_done, life_of, is_finished, last_of, runs, waits}
+use Rattle.mls_model.specs.Launcher.{with_actions, running, starts, tick_actions, actions_at, is_tick, past_with, past_after}
 use Rattle.mls_launch.proofs.OwnActions.{group_actions}
 use Rattle.mls_launch.proofs.Facts.{Facts, facts, run_facts, wait_facts, fact_did, fact_finishes, facts_came}
 use Rattle.mls_launch.proofs.Picking.{count_mono, count_either, first_so_many, none_pass}

@@ -1,10 +1,10 @@
 -- The five stages of a group, and how events and actions lead from one to another.
 use Rattle.std.proofs.Common.{◌≡◌, ℕ, ◌+◌, ◌-◌, ◌≤◌, Bool, true, false, [], ◌∷◌, ◌++◌, refl, sym, ap, ◌∙◌, ltb}
 use Rattle.std.specs.Prelude.{cond, ◌&&◌, ◌||◌, ◌==◌}
-use Rattle.mls_launch.specs.declared.launcher.Event.{Event}
-use Rattle.mls_launch.specs.declared.launcher.Event.TheVariants.{Tick, Beat, Done, RankBeat}
-use Rattle.mls_launch.specs.declared.launcher.Action.{Action}
-use Rattle.mls_launch.specs.declared.launcher.Action.TheVariants.{Restart, GiveUp}
+use Rattle.mls_model.specs.declared.launcher.Event.{Event}
+use Rattle.mls_model.specs.declared.launcher.Event.TheVariants.{Tick, Beat, Done, RankBeat}
+use Rattle.mls_model.specs.declared.launcher.Action.{Action}
+use Rattle.mls_model.specs.declared.launcher.Action.TheVariants.{Restart, GiveUp}
 use Rattle.mls_launch.specs.declared.rows.Row.{Row}
 use Rattle.mls_launch.specs.declared.rows.Row.TheVariants.{Waiting, Running, Finished, GivenUp}
 use Rattle.mls_launch.specs.Safety.{lives_begun}

@@ -5,10 +5,10 @@ use Rattle.std.specs.List.{filter}
 use Rattle.std.proofs.lemmas.List.Elements.{filter-append}
 use Rattle.mls_model.specs.Numbers.{below}
 use Rattle.mls_model.specs.Studies.{Sizes}
-use Rattle.mls_launch.specs.declared.launcher.Action.{Action}
-use Rattle.mls_launch.specs.declared.launcher.Action.TheVariants.{Start, Restart, GiveUp}
-use Rattle.mls_launch.specs.Pasts.{Entry, time_of, is_of, runs, waits, last_of, rank_last}
-use Rattle.mls_launch.specs.Launcher.{with_actions, is_silent, answer_to, rank_restarts, group_answers, running, starts, answers, tick_actions}
+use Rattle.mls_model.specs.declared.launcher.Action.{Action}
+use Rattle.mls_model.specs.declared.launcher.Action.TheVariants.{Start, Restart, GiveUp}
+use Rattle.mls_model.specs.Pasts.{Entry, time_of, is_of, runs, waits, last_of, rank_last}
+use Rattle.mls_model.specs.Launcher.{with_actions, is_silent, answer_to, rank_restarts, group_answers, running, starts, answers, tick_actions}
 use Rattle.mls_launch.proofs.Facts.{Facts, facts, fact_did, facts_after, facts_by, with_actions_append, time_with_actions}
 use Rattle.mls_launch.proofs.Picking.{picked, not_picked, none_of_ranks, among_first, first_so_many}
 use Rattle.mls_launch.proofs.Stages.{silent_facts, answer_facts, answered}

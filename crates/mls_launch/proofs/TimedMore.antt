@@ -1,12 +1,12 @@
 -- The actions over one more event.
 use Rattle.std.proofs.Common.{◌≡◌, ℕ, ◌+◌, ◌<◌, List, [], ◌∷◌, ◌++◌, length, take, map, refl, sym, ap, ◌∙◌, subst, get_or, append_assoc}
 use Rattle.std.proofs.lemmas.List.{append-nil, take_more}
-use Rattle.mls_launch.specs.declared.launcher.Event.{Event}
-use Rattle.mls_launch.specs.declared.launcher.Action.{Action}
-use Rattle.mls_launch.specs.declared.launcher.Timed.{Timed}
+use Rattle.mls_model.specs.declared.launcher.Event.{Event}
+use Rattle.mls_model.specs.declared.launcher.Action.{Action}
+use Rattle.mls_model.specs.declared.launcher.Timed.{Timed}
 use Rattle.mls_model.specs.Studies.{Sizes}
-use Rattle.mls_launch.specs.Pasts.{Entry, came, time_of}
-use Rattle.mls_launch.specs.Launcher.{actions_at, past_with, past_after, past_of, timed_at, timed_after, timed_actions}
+use Rattle.mls_model.specs.Pasts.{Entry, came, time_of}
+use Rattle.mls_model.specs.Launcher.{actions_at, past_with, past_after, past_of, timed_at, timed_after, timed_actions}
 use Rattle.mls_launch.specs.Rows.{Table, StandsFor}
 
 timed_after_append : (s : Sizes) (xs ys : List Event) (past : List Entry) → timed_after s past (xs ++ ys) ≡ timed_after s past xs ++ timed_after s (past_after s past xs) ys

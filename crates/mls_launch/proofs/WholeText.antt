@@ -1,12 +1,13 @@
 -- The watch text from its actions and totals.
 use Rattle.std.proofs.Common.{◌≡◌, ℕ, List, ◌++◌, ap, ◌∙◌}
-use Rattle.mls_launch.specs.declared.launcher.Event.{Event}
-use Rattle.mls_launch.specs.declared.launcher.Timed.{Timed}
+use Rattle.mls_model.specs.declared.launcher.Event.{Event}
+use Rattle.mls_model.specs.declared.launcher.Timed.{Timed}
 use Rattle.mls_launch.specs.declared.totals.Totals.{Totals}
 use Rattle.mls_model.specs.Studies.{Sizes}
-use Rattle.mls_launch.specs.Pasts.{Entry, runs, waits, is_finished}
-use Rattle.mls_launch.specs.Launcher.{past_of, timed_actions}
-use Rattle.mls_launch.specs.WatchText.{group_count, AreTotals, watch_title, action_lines, end_words, end_line, watch_text}
+use Rattle.mls_model.specs.Pasts.{Entry, runs, waits, is_finished}
+use Rattle.mls_model.specs.Launcher.{past_of, timed_actions}
+use Rattle.mls_launch.specs.Writing.{AreTotals}
+use Rattle.mls_model.specs.WatchText.{group_count, watch_title, action_lines, end_words, end_line, watch_text}
 
 end_is : (t : Totals) (s : Sizes) (past : List Entry) → AreTotals t s past → end_words t.running t.waiting t.finished t.given_up ≡ end_line s past
 unfolding end_line

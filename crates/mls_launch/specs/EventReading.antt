@@ -5,8 +5,8 @@ use Rattle.std.specs.Char.{is_ascii_digit}
 use Rattle.std.specs.List.{prefix_len}
 use Rattle.std.specs.Option.{option_and_then}
 use Rattle.std.specs.Str.Parse.{digits_value}
-use Rattle.mls_launch.specs.declared.launcher.Event.{Event}
-use Rattle.mls_launch.specs.declared.launcher.Event.TheVariants.{Tick, Beat, Done, RankBeat}
+use Rattle.mls_model.specs.declared.launcher.Event.{Event}
+use Rattle.mls_model.specs.declared.launcher.Event.TheVariants.{Tick, Beat, Done, RankBeat}
 use Rattle.mls_model.specs.Numbers.{same_bytes}
 
 -- what was read, with the bytes behind it, wherever they lie in memory

@@ -1,7 +1,7 @@
 -- Two small studies with a list of events each.
 use Rattle.std.specs.Prelude.{ℕ, false, List, [], ◌∷◌}
-use Rattle.mls_launch.specs.declared.launcher.Event.{Event}
-use Rattle.mls_launch.specs.declared.launcher.Event.TheVariants.{Tick, Beat, Done}
+use Rattle.mls_model.specs.declared.launcher.Event.{Event}
+use Rattle.mls_model.specs.declared.launcher.Event.TheVariants.{Tick, Beat, Done}
 use Rattle.mls_model.specs.Studies.{Sizes}
 
 -- one cell, step, parameter, rank and client

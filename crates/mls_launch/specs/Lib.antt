@@ -1,6 +1,4 @@
-pub mod Pasts
-pub mod Launcher
-pub mod WatchText
+pub mod Writing
 pub mod Rows
 pub mod Safety
 pub mod Examples

@@ -1,15 +1,15 @@
 -- The rows that a watch keeps of groups and ranks, and what it does by them.
 use Rattle.std.specs.Prelude.{◌≡◌, ℕ, ◌+◌, ◌-◌, max, Bool, true, false, not, ◌&&◌, cond, List, [], ◌∷◌, ◌++◌, length, take, map, filter, slice_index_or, slice_index, slice_set, nat_lt, ◌==◌}
-use Rattle.mls_launch.specs.declared.launcher.Event.{Event}
-use Rattle.mls_launch.specs.declared.launcher.Event.TheVariants.{Beat, Done, RankBeat}
-use Rattle.mls_launch.specs.declared.launcher.Action.{Action}
-use Rattle.mls_launch.specs.declared.launcher.Action.TheVariants.{Start, Restart, GiveUp, RestartRank}
+use Rattle.mls_model.specs.declared.launcher.Event.{Event}
+use Rattle.mls_model.specs.declared.launcher.Event.TheVariants.{Beat, Done, RankBeat}
+use Rattle.mls_model.specs.declared.launcher.Action.{Action}
+use Rattle.mls_model.specs.declared.launcher.Action.TheVariants.{Start, Restart, GiveUp, RestartRank}
 use Rattle.mls_launch.specs.declared.rows.Row.{Row}
 use Rattle.mls_launch.specs.declared.rows.Row.TheVariants.{Waiting, Running, Finished, GivenUp}
 use Rattle.mls_model.specs.Numbers.{below}
 use Rattle.mls_model.specs.Studies.{Sizes}
-use Rattle.mls_launch.specs.Pasts.{Entry, time_of, has_done, is_start, is_finished, is_given_up, life_of, last_of, rank_last, now_of}
-use Rattle.mls_launch.specs.Launcher.{past_of, is_tick}
+use Rattle.mls_model.specs.Pasts.{Entry, time_of, has_done, is_start, is_finished, is_given_up, life_of, last_of, rank_last, now_of}
+use Rattle.mls_model.specs.Launcher.{past_of, is_tick}
 
 -- where a group stands after a past
 unfoldable pub row_of : ℕ → List Entry → Row

@@ -1,12 +1,12 @@
 -- What is safe of a launcher's actions.
 use Rattle.std.specs.Prelude.{◌≡◌, ℕ, zero, suc, ◌-◌, ◌<◌, ◌≤◌, ◌⊎◌, Bool, true, cond, List, [], ◌∷◌, ◌++◌, map, filter}
-use Rattle.mls_launch.specs.declared.launcher.Event.{Event}
-use Rattle.mls_launch.specs.declared.launcher.Action.{Action}
-use Rattle.mls_launch.specs.declared.launcher.Action.TheVariants.{Start, Restart, GiveUp, RestartRank}
-use Rattle.mls_launch.specs.declared.launcher.Timed.{Timed}
+use Rattle.mls_model.specs.declared.launcher.Event.{Event}
+use Rattle.mls_model.specs.declared.launcher.Action.{Action}
+use Rattle.mls_model.specs.declared.launcher.Action.TheVariants.{Start, Restart, GiveUp, RestartRank}
+use Rattle.mls_model.specs.declared.launcher.Timed.{Timed}
 use Rattle.mls_model.specs.Studies.{Sizes}
-use Rattle.mls_launch.specs.Pasts.{Entry, time_of, is_of, is_finished, is_given_up, last_of, rank_last}
-use Rattle.mls_launch.specs.Launcher.{timed_actions}
+use Rattle.mls_model.specs.Pasts.{Entry, time_of, is_of, is_finished, is_given_up, last_of, rank_last}
+use Rattle.mls_model.specs.Launcher.{timed_actions}
 
 -- the actions of a group over a list of events, in order
 unfoldable pub own_actions : Sizes → List Event → ℕ → List Action

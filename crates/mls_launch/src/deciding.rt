@@ -3,7 +3,7 @@
 ghost use Rattle.std.specs.Prelude.{◌≡◌, ◌+◌, ◌-◌, ◌++◌, ◌<◌, ◌≤◌, length, OnOk};
 ghost use Rattle.mls_launch.specs.Rows.{ranks_due, groups_due, staying, starts_due, stays_on};
 
-use crate::launcher::Action;
+use mls_model::launcher::Action;
 use crate::rows::Row;
 use mls_base::faults::NoMemory;
 

@@ -1,7 +1,7 @@
 //! Two small runs of a launcher, computed from the definition alone.
 
 ghost use Rattle.std.specs.Prelude.{◌≡◌, codes};
-ghost use Rattle.mls_launch.specs.WatchText.{watch_text};
+ghost use Rattle.mls_model.specs.WatchText.{watch_text};
 ghost use Rattle.mls_launch.specs.Examples.{launch_sizes, three_groups_events, strict_silence_events};
 
 /// Three groups, two of them at once: one ends well, one is silent to its last life, one waits for a slot.

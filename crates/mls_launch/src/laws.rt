@@ -3,9 +3,9 @@
 ghost use Rattle.std.specs.Prelude.{◌≡◌, ℕ, ◌≤◌, ◌++◌, [], ◌∷◌, List, false};
 ghost use Rattle.std.specs.List.{AllByRecursion};
 ghost use Rattle.mls_model.specs.Studies.{Sizes, AreSizes};
-ghost use Rattle.mls_launch.specs.declared.launcher.Event.{Event};
-ghost use Rattle.mls_launch.specs.Pasts.{came};
-ghost use Rattle.mls_launch.specs.Launcher.{running, actions_at, is_tick, past_of};
+ghost use Rattle.mls_model.specs.declared.launcher.Event.{Event};
+ghost use Rattle.mls_model.specs.Pasts.{came};
+ghost use Rattle.mls_model.specs.Launcher.{running, actions_at, is_tick, past_of};
 ghost use Rattle.mls_launch.specs.Safety.{own_actions, IsCourse, IsSettled, IsTimely};
 
 /// After every list of events at most `slots` groups run. A group's actions are a start with life 1, restarts with

@@ -1,13 +1,12 @@
 //! The launcher: which groups and ranks to start, restart or give up, from what was heard of them.
 //!
-//! `specs/` has the definition over whole lists of events; a `Watch` keeps a row for each group and rank.
+//! `mls_model` has the definition over whole lists of events; a `Watch` keeps a row for each group and rank.
 #![tactic(auto)]
 
 mod changes;
 mod deciding;
 pub mod examples;
 pub mod faults;
-pub mod launcher;
 pub mod laws;
 pub mod reading;
 mod rows;
@@ -16,7 +15,7 @@ pub mod watch;
 pub mod writing;
 
 pub use faults::OutFault;
-pub use launcher::{Action, Event, Timed};
+pub use mls_model::launcher::{Action, Event, Timed};
 pub use reading::{EventFault, read_events};
 pub use totals::Totals;
 pub use watch::Watch;

@@ -7,7 +7,7 @@ ghost use Rattle.mls_launch.specs.EventsText.{events_text};
 ghost use Rattle.mls_launch.specs.EventFaults.{IsRefused};
 ghost use Rattle.mls_launch.specs.EventReading.{seen, seen_rest, after_in, number_of, number_in, number_before, tick_in, rank_in, life_in, event_in};
 
-use crate::launcher::Event;
+use mls_model::launcher::Event;
 use itoa::Buffer;
 use std::alloc::{AllocFailed, Global};
 use std::str;

@@ -3,7 +3,7 @@
 ghost use Rattle.std.specs.Prelude.{◌≡◌, ◌≤◌};
 ghost use Rattle.mls_launch.specs.Rows.{row_beat, row_done, is_due, answer_for, stays_on, is_running, is_waiting, is_done, is_left};
 
-use crate::launcher::Action;
+use mls_model::launcher::Action;
 
 /// Where a group stands.
 #[derive(Clone, Copy)]

@@ -1,19 +1,19 @@
 //! A watch over the groups and ranks of a study.
 
 ghost use Rattle.std.specs.Prelude.{◌≡◌, ◌++◌, [], ◌∷◌, List, max, IfOk, OnOk, OnErr};
-ghost use Rattle.mls_launch.specs.declared.launcher.Event.{Event};
-ghost use Rattle.mls_launch.specs.Pasts.{came, now_of, time_of};
-ghost use Rattle.mls_launch.specs.Launcher.{actions_at, past_of};
+ghost use Rattle.mls_model.specs.declared.launcher.Event.{Event};
+ghost use Rattle.mls_model.specs.Pasts.{came, now_of, time_of};
+ghost use Rattle.mls_model.specs.Launcher.{actions_at, past_of};
 ghost use Rattle.mls_launch.specs.Rows.{StandsFor, due, decided, settled};
-ghost use Rattle.mls_launch.specs.WatchText.{AreTotals};
+ghost use Rattle.mls_launch.specs.Writing.{AreTotals};
 
 use crate::changes::{carry_out_all, hear};
 use crate::deciding::{answer_groups, count_staying, restart_ranks, start_groups};
-use crate::launcher::{Action, Event};
 use crate::rows::Row;
 use crate::totals::{Totals, totals_of};
 use mls_base::faults::NoMemory;
 use mls_base::shape::Shape;
+use mls_model::launcher::{Action, Event};
 use std::alloc::Global;
 use std::marker::Model;
 
@@ -106,7 +106,7 @@ impl Watch {
         ensures kept { OnErr result (actions.new.items ≡ actions.old.items) }
     {
         self.shape.valid();
-        let time = self.time.max(event.now());
+        let time = self.time.max(now(event));
         let decided = self.decide(event, time)?;
         actions.extend_from_slice(&decided)?;
         self.settle(event, &decided, time);
@@ -120,5 +120,17 @@ impl Watch {
     {
         self.shape.valid();
         totals_of(&self.rows)
+    }
+}
+
+// the time that an event has, in seconds
+fn now(event: &Event) -> u32
+    ensures { result ≡ now_of event.now }
+{
+    match *event {
+        Event::Tick { now } => now,
+        Event::Beat { now, .. } => now,
+        Event::Done { now, .. } => now,
+        Event::RankBeat { now, .. } => now,
     }
 }

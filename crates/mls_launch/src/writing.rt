@@ -2,11 +2,12 @@
 
 ghost use Rattle.std.specs.Prelude.{◌≡◌, ◌++◌, ◌≤◌, List, IfOk, OnOk, map};
 ghost use Rattle.mls_text.specs.Writing.{Writes};
-ghost use Rattle.mls_launch.specs.Launcher.{past_of, timed_actions};
-ghost use Rattle.mls_launch.specs.WatchText.{AreTotals, watch_title, life_line, number_line, action_line, action_lines, pair_words, line_end, end_words, watch_text, WritesOut};
+ghost use Rattle.mls_model.specs.Launcher.{past_of, timed_actions};
+ghost use Rattle.mls_launch.specs.Writing.{AreTotals, WritesOut};
+ghost use Rattle.mls_model.specs.WatchText.{watch_title, life_line, number_line, action_line, action_lines, pair_words, line_end, end_words, watch_text};
 
 use crate::faults::OutFault;
-use crate::launcher::{Action, Event, Timed};
+use mls_model::launcher::{Action, Event, Timed};
 use crate::totals::Totals;
 use crate::watch::Watch;
 use itoa::Buffer;
@@ -45,7 +46,7 @@ fn watched(alloc: Global, shape: &Shape, events: &[Event]) -> Result<(Vec<Timed>
 }
 
 /// Writes a line of a time, words, a group and its life.
-#[tactic(auto, unfolding(crate::specs::WatchText::life_line))]
+#[tactic(auto, unfolding(mls_model::specs::WatchText::life_line))]
 fn put_life<O: Sink>(
     out: &mut O,
     time: u32,
@@ -72,7 +73,7 @@ fn put_life<O: Sink>(
 }
 
 /// Writes a line of a time, words and a number.
-#[tactic(auto, unfolding(crate::specs::WatchText::number_line))]
+#[tactic(auto, unfolding(mls_model::specs::WatchText::number_line))]
 fn put_number<O: Sink>(out: &mut O, time: u32, words: &[u8], number: u32) -> Result<(), Failed>
     ensures { Writes result (number_line time words.now number) (O.told out.old) (O.told out.new) (O.faults out.old) (O.faults out.new) }
 {
@@ -90,7 +91,7 @@ fn put_number<O: Sink>(out: &mut O, time: u32, words: &[u8], number: u32) -> Res
 }
 
 /// Writes the line of an action.
-#[tactic(auto, unfolding(crate::specs::WatchText::action_line))]
+#[tactic(auto, unfolding(mls_model::specs::WatchText::action_line))]
 fn put_action<O: Sink>(out: &mut O, timed: &Timed) -> Result<(), Failed>
     ensures { Writes result (action_line timed.now.time timed.now.action) (O.told out.old) (O.told out.new) (O.faults out.old) (O.faults out.new) }
 {
@@ -109,7 +110,7 @@ fn put_action<O: Sink>(out: &mut O, timed: &Timed) -> Result<(), Failed>
 }
 
 /// Writes the lines of actions.
-#[tactic(auto, unfolding(crate::specs::WatchText::action_lines))]
+#[tactic(auto, unfolding(mls_model::specs::WatchText::action_lines))]
 fn put_actions<O: Sink>(out: &mut O, lines: &[Timed]) -> Result<(), Failed>
     ensures { Writes result (action_lines lines.now) (O.told out.old) (O.told out.new) (O.faults out.old) (O.faults out.new) }
 {
@@ -120,7 +121,7 @@ fn put_actions<O: Sink>(out: &mut O, lines: &[Timed]) -> Result<(), Failed>
 }
 
 /// Writes two numbers with words before each.
-#[tactic(auto, unfolding(crate::specs::WatchText::pair_words))]
+#[tactic(auto, unfolding(mls_model::specs::WatchText::pair_words))]
 fn put_pair<O: Sink>(out: &mut O, first: &[u8], a: u32, second: &[u8], b: u32) -> Result<(), Failed>
     ensures { Writes result (pair_words first.now a second.now b) (O.told out.old) (O.told out.new) (O.faults out.old) (O.faults out.new) }
 {
@@ -138,7 +139,7 @@ fn put_pair<O: Sink>(out: &mut O, first: &[u8], a: u32, second: &[u8], b: u32) -
 }
 
 /// Ends a line.
-#[tactic(auto, unfolding(crate::specs::WatchText::line_end))]
+#[tactic(auto, unfolding(mls_model::specs::WatchText::line_end))]
 fn put_line_end<O: Sink>(out: &mut O) -> Result<(), Failed>
     ensures { Writes result line_end (O.told out.old) (O.told out.new) (O.faults out.old) (O.faults out.new) }
 {
@@ -146,7 +147,7 @@ fn put_line_end<O: Sink>(out: &mut O) -> Result<(), Failed>
 }
 
 /// Writes the last line.
-#[tactic(auto, using(mls_text::proofs::Writing::chain), unfolding(crate::specs::WatchText::end_words))]
+#[tactic(auto, using(mls_text::proofs::Writing::chain), unfolding(mls_model::specs::WatchText::end_words))]
 fn put_totals<O: Sink>(out: &mut O, totals: &Totals) -> Result<(), Failed>
     ensures { Writes result (end_words totals.now.running totals.now.waiting totals.now.finished totals.now.given_up) (O.told out.old) (O.told out.new) (O.faults out.old) (O.faults out.new) }
 {
@@ -168,7 +169,7 @@ fn put_totals<O: Sink>(out: &mut O, totals: &Totals) -> Result<(), Failed>
 }
 
 /// Writes the title.
-#[tactic(auto, unfolding(crate::specs::WatchText::watch_title))]
+#[tactic(auto, unfolding(mls_model::specs::WatchText::watch_title))]
 fn put_title<O: Sink>(out: &mut O) -> Result<(), Failed>
     ensures { Writes result watch_title (O.told out.old) (O.told out.new) (O.faults out.old) (O.faults out.new) }
 {

@@ -16,3 +16,7 @@ pub mod Statistics
 pub mod Indices
 pub mod ResultText
 pub mod Standing
+pub mod Pasts
+pub mod Launcher
+pub mod WatchText
+pub mod Designs

@@ -7,5 +7,6 @@
 
 pub mod blocks;
 pub mod lanes;
+pub mod launcher;
 pub mod outcomes;
 pub mod studies;

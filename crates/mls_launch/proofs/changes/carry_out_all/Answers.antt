@@ -1,5 +1,5 @@
 use Rattle.std.proofs.Common.{refl, sym, ap, ◌∙◌, get_or}
-use Rattle.mls_launch.specs.declared.launcher.Action.TheVariants.{Start}
+use Rattle.mls_model.specs.declared.launcher.Action.TheVariants.{Start}
 use Rattle.mls_launch.specs.Rows.{lasts_with, rows_with, lasts_after, rows_after}
 use Rattle.mls_launch.proofs.RowsAfter.{lasts_after_more, rows_after_more}
 use Rattle.mls_launch.proofs.changes.carry_out_all.Goals as goal

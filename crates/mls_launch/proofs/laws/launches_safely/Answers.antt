@@ -1,4 +1,4 @@
-use Rattle.mls_launch.specs.Launcher.{past_of}
+use Rattle.mls_model.specs.Launcher.{past_of}
 use Rattle.mls_launch.proofs.Safe.{sound_of, has_course, stays_settled, no_tick, all_timely}
 use Rattle.mls_launch.proofs.laws.launches_safely.Goals as goal
 

@@ -1,5 +1,5 @@
-use Rattle.mls_launch.specs.declared.launcher.Timed.{Timed}
-use Rattle.mls_launch.specs.WatchText.{action_line, action_lines}
+use Rattle.mls_model.specs.declared.launcher.Timed.{Timed}
+use Rattle.mls_model.specs.WatchText.{action_line, action_lines}
 use Rattle.mls_text.proofs.Writing.{texts_more, texts_failed, rose_since, failed_writes}
 use Rattle.mls_launch.proofs.writing.put_actions.Goals as goal
 

@@ -1,7 +1,7 @@
 use Rattle.std.proofs.Common.{drop}
 use Rattle.std.specs.List.{flat_map}
-use Rattle.mls_launch.specs.declared.launcher.Timed.{Timed}
-use Rattle.mls_launch.specs.WatchText.{action_line}
+use Rattle.mls_model.specs.declared.launcher.Timed.{Timed}
+use Rattle.mls_model.specs.WatchText.{action_line}
 use Rattle.mls_text.proofs.Writing.{IsFrontOut}
 use Rattle.mls_launch.proofs.writing.put_actions.Given as goal
 

@@ -1,5 +1,5 @@
 use Rattle.std.specs.Prelude.{codes}
-use Rattle.mls_launch.specs.WatchText.{pair_words, line_end, end_words}
+use Rattle.mls_model.specs.WatchText.{pair_words, line_end, end_words}
 use Rattle.mls_text.proofs.Writing.{first_failed, later_failed, writes_after, rose_since, failed_writes}
 use Rattle.mls_launch.proofs.writing.put_totals.Goals as goal
 

@@ -1,6 +1,6 @@
 use Rattle.std.proofs.Common.{ap, ◌∙◌, ◌++◌, get_or}
-use Rattle.mls_launch.specs.declared.launcher.Event.TheVariants.{Tick}
-use Rattle.mls_launch.specs.Launcher.{actions_at, past_of}
+use Rattle.mls_model.specs.declared.launcher.Event.TheVariants.{Tick}
+use Rattle.mls_model.specs.Launcher.{actions_at, past_of}
 use Rattle.mls_launch.proofs.TimedMore.{watched_none, watched_more}
 use Rattle.mls_launch.proofs.writing.watched.Goals as goal
 

@@ -1,6 +1,6 @@
 use Rattle.std.proofs.Common.{◌≡◌, ◌≤◌, ◌++◌, ◌∷◌, [], max, sym, ap, ◌∙◌, subst}
 use Rattle.mls_model.specs.Studies.{Sizes}
-use Rattle.mls_launch.specs.Pasts.{now_of}
+use Rattle.mls_model.specs.Pasts.{now_of}
 use Rattle.mls_launch.specs.Rows.{Table, StandsFor, stepped}
 use Rattle.mls_launch.proofs.Standing.{stands_more, decided_is, time_is_later}
 use Rattle.mls_launch.proofs.Stepping.{stepped_is, settled_sizes}

@@ -1,8 +1,5 @@
 //! What a launcher hears, and what it answers.
 
-ghost use Rattle.std.specs.Prelude.{◌≡◌};
-ghost use Rattle.mls_launch.specs.Pasts.{now_of};
-
 /// What a launcher hears. Each has the time `now` in seconds since the launcher's start.
 #[derive(Clone, Copy, Debug, PartialEq, Eq)]
 pub enum Event {
@@ -14,20 +11,6 @@ pub enum Event {
     Done { group: u32, life: u32, now: u32 },
     /// A rank gave a sign of life.
     RankBeat { rank: u32, now: u32 },
-}
-
-impl Event {
-    /// The time that the event has, in seconds.
-    pub fn now(&self) -> u32
-        ensures { result ≡ now_of self.now }
-    {
-        match *self {
-            Event::Tick { now } => now,
-            Event::Beat { now, .. } => now,
-            Event::Done { now, .. } => now,
-            Event::RankBeat { now, .. } => now,
-        }
-    }
 }
 
 /// What a launcher answers.

@@ -1,13 +1,13 @@
 -- What a launcher does at each event.
 use Rattle.std.specs.Prelude.{ℕ, ◌+◌, ◌-◌, Bool, true, false, ◌&&◌, cond, List, [], ◌∷◌, ◌++◌, length, take, map, filter, nat_lt}
-use Rattle.mls_launch.specs.declared.launcher.Event.{Event}
-use Rattle.mls_launch.specs.declared.launcher.Event.TheVariants.{Tick}
-use Rattle.mls_launch.specs.declared.launcher.Action.{Action}
-use Rattle.mls_launch.specs.declared.launcher.Action.TheVariants.{Start, Restart, GiveUp, RestartRank}
-use Rattle.mls_launch.specs.declared.launcher.Timed.{Timed}
+use Rattle.mls_model.specs.declared.launcher.Event.{Event}
+use Rattle.mls_model.specs.declared.launcher.Event.TheVariants.{Tick}
+use Rattle.mls_model.specs.declared.launcher.Action.{Action}
+use Rattle.mls_model.specs.declared.launcher.Action.TheVariants.{Start, Restart, GiveUp, RestartRank}
+use Rattle.mls_model.specs.declared.launcher.Timed.{Timed}
 use Rattle.mls_model.specs.Numbers.{below}
 use Rattle.mls_model.specs.Studies.{Sizes}
-use Rattle.mls_launch.specs.Pasts.{Entry, came, did, time_of, life_of, runs, waits, last_of, rank_last}
+use Rattle.mls_model.specs.Pasts.{Entry, came, did, time_of, life_of, runs, waits, last_of, rank_last}
 
 -- the past with actions that were done after it, in order
 unfoldable pub with_actions : List Action → List Entry → List Entry

@@ -1,18 +1,14 @@
 -- The text of a watch over a list of events.
-use Rattle.std.specs.Prelude.{◌≡◌, ℕ, Bool, Option, Result, Ok, Err, List, [], ◌∷◌, ◌++◌, length, filter, codes, decimal}
+use Rattle.std.specs.Prelude.{ℕ, Bool, List, [], ◌∷◌, ◌++◌, length, filter, codes, decimal}
 use Rattle.std.specs.List.{flat_map}
-use Rattle.mls_launch.specs.declared.launcher.Event.{Event}
-use Rattle.mls_launch.specs.declared.launcher.Action.{Action}
-use Rattle.mls_launch.specs.declared.launcher.Action.TheVariants.{Start, Restart, GiveUp, RestartRank}
-use Rattle.mls_launch.specs.declared.totals.Totals.{Totals}
-use Rattle.mls_launch.specs.declared.faults.OutFault.{OutFault}
-use Rattle.mls_launch.specs.declared.faults.OutFault.TheVariants.{WriteFault, Memory}
-use Rattle.mls_base.specs.Told.{appended, Rose, WroteFront}
+use Rattle.mls_model.specs.declared.launcher.Event.{Event}
+use Rattle.mls_model.specs.declared.launcher.Action.{Action}
+use Rattle.mls_model.specs.declared.launcher.Action.TheVariants.{Start, Restart, GiveUp, RestartRank}
 use Rattle.mls_model.specs.Numbers.{below, joined}
 use Rattle.mls_model.specs.Studies.{Sizes}
-use Rattle.mls_launch.specs.Pasts.{Entry, runs, waits, is_finished, is_given_up}
-use Rattle.mls_launch.specs.declared.launcher.Timed.{Timed}
-use Rattle.mls_launch.specs.Launcher.{past_of, timed_actions}
+use Rattle.mls_model.specs.Pasts.{Entry, runs, waits, is_finished, is_given_up}
+use Rattle.mls_model.specs.declared.launcher.Timed.{Timed}
+use Rattle.mls_model.specs.Launcher.{past_of, timed_actions}
 
 -- how many groups pass a test
 unfoldable pub group_count : Sizes → (ℕ → Bool) → ℕ
@@ -58,20 +54,3 @@ end_line s past = end_words (group_count s (λ g. runs g past)) (group_count s (
 -- The watch text of a study's numbers and a list of events.
 unfoldable pub watch_text : Sizes → List Event → List ℕ
 watch_text s events = watch_title ++ (action_lines (timed_actions s events) ++ end_line s (past_of s events))
-
--- the numbers of groups that run, wait, are finished and are given up
-pub record AreTotals (t : Totals) (s : Sizes) (past : List Entry) : Type 0 where
-  pub running : t.running ≡ group_count s (λ g. runs g past)
-  pub waiting : t.waiting ≡ group_count s (λ g. waits g past)
-  pub finished : t.finished ≡ group_count s (λ g. is_finished g past)
-  pub given_up : t.given_up ≡ group_count s (λ g. is_given_up g past)
-
--- After Ok the text was appended and no count rose; after a write fault a front of it went out and the count of
--- faults rose; after want of memory nothing went out.
-abbrev pub OutLeaves : OutFault → List ℕ → Option (List ℕ) → Option (List ℕ) → ℕ → ℕ → Type 0
-OutLeaves WriteFault text old new before now = WroteFront old new text × Rose before now
-OutLeaves Memory text old new before now = (new ≡ old) × (now ≡ before)
-
-abbrev pub WritesOut : {A : Type 0} → Result A OutFault → List ℕ → Option (List ℕ) → Option (List ℕ) → ℕ → ℕ → Type 0
-WritesOut (Ok done) text old new before now = (new ≡ appended old text) × (now ≡ before)
-WritesOut (Err fault) text old new before now = OutLeaves fault text old new before now

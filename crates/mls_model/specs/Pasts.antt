@@ -1,9 +1,9 @@
 -- What a launcher heard and did up to a moment, and what that says of a group and of a rank.
 use Rattle.std.specs.Prelude.{ℕ, suc, max, Bool, false, not, ◌&&◌, ◌||◌, cond, List, [], ◌∷◌, ◌==◌}
-use Rattle.mls_launch.specs.declared.launcher.Event.{Event}
-use Rattle.mls_launch.specs.declared.launcher.Event.TheVariants.{Tick, Beat, Done, RankBeat}
-use Rattle.mls_launch.specs.declared.launcher.Action.{Action}
-use Rattle.mls_launch.specs.declared.launcher.Action.TheVariants.{Start, Restart, GiveUp, RestartRank}
+use Rattle.mls_model.specs.declared.launcher.Event.{Event}
+use Rattle.mls_model.specs.declared.launcher.Event.TheVariants.{Tick, Beat, Done, RankBeat}
+use Rattle.mls_model.specs.declared.launcher.Action.{Action}
+use Rattle.mls_model.specs.declared.launcher.Action.TheVariants.{Start, Restart, GiveUp, RestartRank}
 
 -- An event came, or an action was done. A past is a list of these, the latest first.
 pub data Entry : Type 0 where

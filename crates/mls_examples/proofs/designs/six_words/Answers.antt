@@ -1,0 +1,7 @@
+use Rattle.mls_examples.proofs.Computing.{of_designs}
+use Rattle.std.proofs.Common.{refl}
+use Rattle.mls_examples.proofs.designs.six_words.Goals as goal
+
+pub returns : goal.returns
+unfolding of_designs
+returns c = refl
