@@ -1,40 +1,22 @@
 -- The reader of an events file reads exactly the lines of events.
-use Rattle.std.proofs.Common.{◌≡◌, ℕ, ◌+◌, ◌^◌, ◌<◌, ◌≤◌, Bool, true, false, List, [], ◌∷◌, ◌++◌, length, take, drop, refl, sym, ap, ◌∙◌, subst, inl, inr, arith, append_assoc, length-append, Option, Some, None, Result, Ok, Err}
-use Rattle.std.specs.Prelude.{cond, ◌&&◌, ◌==◌, nat_lt, codes, decimal}
+use Rattle.std.proofs.Common.{◌≡◌, ℕ, suc, ◌-◌, ◌+◌, ◌^◌, ◌<◌, ◌≤◌, Bool, true, false, List, [], ◌∷◌, ◌++◌, length, take, drop, refl, sym, ap, ◌∙◌, subst, inl, inr, arith, append_assoc, length-append, Option, Some, None, Result, Ok, Err}
+use Rattle.std.specs.Prelude.{cond, ◌&&◌, ◌==◌, codes, decimal}
 use Rattle.std.specs.Char.{is_ascii_digit}
 use Rattle.std.specs.List.{prefix_len, AllByRecursion}
 use Rattle.std.specs.Option.{option_and_then}
-use Rattle.std.specs.Str.{all_ascii_digits, bytes_eq, IsUtf8}
-use Rattle.std.specs.Str.Parse.{digits_value, ParsesUnsigned}
+use Rattle.std.specs.Str.{all_ascii_digits}
+use Rattle.std.specs.Str.Parse.{digits_value}
 use Rattle.std.proofs.lemmas.Bool.{cases_Bool}
 use Rattle.std.proofs.lemmas.List.{append-nil, take-append-drop}
 use Rattle.std.proofs.lemmas.Str.Parse.{IsNumeralModel, numerals_by_value, tells_all_ascii_digits}
-use Rattle.std.proofs.lemmas.Fmt.{digits_decimal, digits_value-decimal, IsAscii-decimal, parse-decimal}
-use Rattle.std.proofs.lemmas.Str.{IsUtf8-from_ascii}
-use Rattle.std.proofs.lemmas.Slice.Eq.{bytes_eq-Decides}
+use Rattle.std.proofs.lemmas.Fmt.{digits_decimal}
 use Rattle.mls_model.specs.declared.launcher.Event.{Event}
 use Rattle.mls_model.specs.declared.launcher.Event.TheVariants.{Tick, Beat, Done, RankBeat}
-use Rattle.mls_model.specs.Numbers.{same_bytes}
 use Rattle.mls_launch.specs.EventsText.{event_line, IsEvent, events_text, IsRefusedAt}
-use Rattle.mls_launch.specs.EventReading.{after_in, behind, number_of, number_in, number_before, tick_in, rank_in, life_in, event_in}
-use Rattle.mls_launch.proofs.Picking.{eq_same, eq_true, lt_true, lt_yes}
-
--- lists of bytes that are the same
-same_self : (xs : List ℕ) → same_bytes xs xs ≡ true
-same_self [] = refl
-same_self (x ∷ xs) = ap (λ b. b && same_bytes xs xs) (eq_same x) ∙ same_self xs
-
-both_true : (a b : Bool) → (a && b) ≡ true → (a ≡ true) × (b ≡ true)
-both_true true b t = (refl, t)
-both_true false b t = cc
-
-same_true : (xs ys : List ℕ) → same_bytes xs ys ≡ true → xs ≡ ys
-same_true [] [] t = refl
-same_true [] (y ∷ ys) t = cc
-same_true (x ∷ xs) [] t = cc
-same_true (x ∷ xs) (y ∷ ys) t =
-    let both = both_true (x == y) (same_bytes xs ys) t in
-    ap (λ z. z ∷ xs) (eq_true x y both.0) ∙ ap (λ l. y ∷ l) (same_true xs ys both.1)
+use Rattle.mls_launch.specs.EventReading.{prepended, events_from, events_of, after_in, behind, number_in, number_before, tick_in, rank_in, life_in, event_in}
+use Rattle.mls_launch.proofs.Picking.{eq_same, eq_true}
+use Rattle.mls_text.specs.Decimals.{number_below}
+use Rattle.mls_text.proofs.Decimals.{number_is, number_found}
 
 -- a front
 pub after_front : (front rest : List ℕ) → after_in front (front ++ rest) ≡ Some rest
@@ -75,34 +57,9 @@ own = numerals_by_value (λ ds. all_ascii_digits ds ≡ true) tells_all_ascii_di
 below_64 : (n : ℕ) → n < 2 ^ 32 → n < 2 ^ 64
 below_64 n h = omega arith
 
-pub number_of_is : (digits : List ℕ) (n : ℕ) → n < 2 ^ 32 → digits ≡ decimal n → number_of digits ≡ Some n
-unfolding number_of
-number_of_is digits n small e =
-    let value : digits_value 10 digits ≡ n = ap (digits_value 10) e ∙ digits_value-decimal own n (below_64 n small) in
-    ap (λ v. cond (same_bytes (decimal v) digits && nat_lt v (2 ^ 32)) (Some v) None) value
-    ∙ ap (λ l. cond (same_bytes (decimal n) l && nat_lt n (2 ^ 32)) (Some n) None) e
-    ∙ ap (λ b. cond (b && nat_lt n (2 ^ 32)) (Some n) None) (same_self (decimal n))
-    ∙ ap (λ b. cond b (Some n) None) (lt_yes n (2 ^ 32) small)
-
-pub number_of_none : (digits : List ℕ) → ((n : ℕ) → n < 2 ^ 32 → digits ≡ decimal n → ⊥) → number_of digits ≡ None
-unfolding number_of
-number_of_none digits never = elim (cases_Bool (same_bytes (decimal (digits_value 10 digits)) digits && nat_lt (digits_value 10 digits) (2 ^ 32))) [
-  | inl t ↦
-      let both = both_true (same_bytes (decimal (digits_value 10 digits)) digits) (nat_lt (digits_value 10 digits) (2 ^ 32)) t in
-      absurd (never (digits_value 10 digits) (lt_true (digits_value 10 digits) (2 ^ 32) both.1) (sym (same_true (decimal (digits_value 10 digits)) digits both.0)))
-  | inr f ↦ ap (λ b. cond b (Some (digits_value 10 digits)) None) f
-]
-
-number_of_found : (digits : List ℕ) (n : ℕ) → number_of digits ≡ Some n → (digits ≡ decimal n) × (n < 2 ^ 32)
-unfolding number_of
-number_of_found digits n e = elim (cases_Bool (same_bytes (decimal (digits_value 10 digits)) digits && nat_lt (digits_value 10 digits) (2 ^ 32))) [
-  | inl t ↦
-      let both = both_true (same_bytes (decimal (digits_value 10 digits)) digits) (nat_lt (digits_value 10 digits) (2 ^ 32)) t in
-      let is : Some (digits_value 10 digits) ≡ Some n = sym (ap (λ b. cond b (Some (digits_value 10 digits)) None) t) ∙ e in
-      let same : digits_value 10 digits ≡ n = cc in
-      (sym (same_true (decimal (digits_value 10 digits)) digits both.0) ∙ ap decimal same, let P : ℕ → Type 0 = λ k. k < 2 ^ 32 in subst P same (lt_true (digits_value 10 digits) (2 ^ 32) both.1))
-  | inr f ↦ let wrong : None ≡ Some n = sym (ap (λ b. cond b (Some (digits_value 10 digits)) None) f) ∙ e in cc
-]
+both_true : (a b : Bool) → (a && b) ≡ true → (a ≡ true) × (b ≡ true)
+both_true true b t = (refl, t)
+both_true false b t = cc
 
 digits_run : (digits : List ℕ) (c : ℕ) (rest : List ℕ) → all_ascii_digits digits ≡ true → is_ascii_digit c ≡ false → prefix_len is_ascii_digit (digits ++ c ∷ rest) ≡ length digits
 digits_run [] c rest all stop = ap (λ b. cond b (1 + prefix_len is_ascii_digit rest) 0) stop
@@ -120,9 +77,9 @@ number_in_is : (n c : ℕ) (rest : List ℕ) → n < 2 ^ 32 → is_ascii_digit c
 unfolding number_in
 number_in_is n c rest small stop =
     let run : prefix_len is_ascii_digit (decimal n ++ c ∷ rest) ≡ length (decimal n) = digits_run (decimal n) c rest (digits_decimal own n (below_64 n small)) stop in
-    let part : ℕ → Option (ℕ × List ℕ) = λ k. option_and_then (λ m. Some (m, drop k (decimal n ++ c ∷ rest))) (number_of (take k (decimal n ++ c ∷ rest))) in
+    let part : ℕ → Option (ℕ × List ℕ) = λ k. option_and_then (λ m. Some (m, drop k (decimal n ++ c ∷ rest))) (number_below (2 ^ 32) (take k (decimal n ++ c ∷ rest))) in
     ap part run
-    ∙ ap (option_and_then (λ m. Some (m, drop (length (decimal n)) (decimal n ++ c ∷ rest)))) (number_of_is (take (length (decimal n)) (decimal n ++ c ∷ rest)) n small (take_front (decimal n) (c ∷ rest)))
+    ∙ ap (option_and_then (λ m. Some (m, drop (length (decimal n)) (decimal n ++ c ∷ rest)))) (number_is (2 ^ 32) (take (length (decimal n)) (decimal n ++ c ∷ rest)) n (omega arith) small (take_front (decimal n) (c ∷ rest)))
     ∙ ap (λ l. Some (n, l)) (drop_front (decimal n) (c ∷ rest))
 
 first_or : {A B : Type 0} → A → Option (A × B) → A
@@ -143,14 +100,14 @@ second_same a c b d e = ap (second_or b) e
 
 number_in_found : (bytes : List ℕ) (n : ℕ) (rest : List ℕ) → number_in bytes ≡ Some (n, rest) → (bytes ≡ decimal n ++ rest) × (n < 2 ^ 32)
 unfolding number_in
-number_in_found bytes n rest e = go (number_of (take (prefix_len is_ascii_digit bytes) bytes)) refl e
+number_in_found bytes n rest e = go (number_below (2 ^ 32) (take (prefix_len is_ascii_digit bytes) bytes)) refl e
   where
-    go : (o : Option ℕ) → number_of (take (prefix_len is_ascii_digit bytes) bytes) ≡ o → option_and_then {U = ℕ × List ℕ} (λ (m : ℕ). Some (m, drop (prefix_len is_ascii_digit bytes) bytes)) o ≡ Some (n, rest) → (bytes ≡ decimal n ++ rest) × (n < 2 ^ 32)
+    go : (o : Option ℕ) → number_below (2 ^ 32) (take (prefix_len is_ascii_digit bytes) bytes) ≡ o → option_and_then {U = ℕ × List ℕ} (λ (m : ℕ). Some (m, drop (prefix_len is_ascii_digit bytes) bytes)) o ≡ Some (n, rest) → (bytes ≡ decimal n ++ rest) × (n < 2 ^ 32)
     go None h e = cc
     go (Some m) h e =
         let same0 = first_same m n (drop (prefix_len is_ascii_digit bytes) bytes) rest e in
         let same1 = second_same m n (drop (prefix_len is_ascii_digit bytes) bytes) rest e in
-        let found = number_of_found (take (prefix_len is_ascii_digit bytes) bytes) m h in (
+        let found = number_found (2 ^ 32) (take (prefix_len is_ascii_digit bytes) bytes) m h in (
           sym (take-append-drop (prefix_len is_ascii_digit bytes) bytes)
               ∙ ap (λ l. l ++ drop (prefix_len is_ascii_digit bytes) bytes) (found.0 ∙ ap decimal same0)
               ∙ ap (λ l. decimal n ++ l) same1,
@@ -395,31 +352,74 @@ refused bytes events rest line r some none is = record {
       cc;
 }
 
--- what the steps of the reader of a number know
-pub decimal_utf8 : (digits : List ℕ) (n : ℕ) → n < 2 ^ 32 → digits ≡ decimal n → IsUtf8 digits
-decimal_utf8 digits n small e = subst (λ l. IsUtf8 l) (sym e) (IsUtf8-from_ascii (decimal n) (IsAscii-decimal n (below_64 n small)))
-
-pub not_parsed : {E : Type 0} (digits text : List ℕ) (r : Result ℕ E) (why : E) → ParsesUnsigned 32 10 text r → text ≡ digits → r ≡ Err why → (n : ℕ) → n < 2 ^ 32 → digits ≡ decimal n → ⊥
-not_parsed digits text r why parses same failed n small e =
-    let is : r ≡ Ok n = parse-decimal 32 n text r small (below_64 n small) (same ∙ e) parses in
-    cc
-
-pub parsed_other : {E : Type 0} (digits text : List ℕ) (r : Result ℕ E) (m : ℕ) → ParsesUnsigned 32 10 text r → text ≡ digits → r ≡ Ok m → (digits ≡ decimal m → ⊥) → (n : ℕ) → n < 2 ^ 32 → digits ≡ decimal n → ⊥
-parsed_other digits text r m parses same read other n small e =
-    let is : r ≡ Ok n = parse-decimal 32 n text r small (below_64 n small) (same ∙ e) parses in
-    let alike : n ≡ m = cc in
-    other (e ∙ ap decimal alike)
-
-pub bytes_true : (xs ys : List ℕ) (r : Bool) → r ≡ bytes_eq xs ys → r ≡ true → xs ≡ ys
-bytes_true xs ys r is t = (bytes_eq-Decides xs ys).0 (sym is ∙ t)
-
-pub bytes_false : (xs ys : List ℕ) (r : Bool) → r ≡ bytes_eq xs ys → r ≡ false → xs ≡ ys → ⊥
-bytes_false xs ys r is f e =
-    let t : bytes_eq xs ys ≡ true = (bytes_eq-Decides xs ys).1 e in
-    cc
-
 pub read_begins : (bytes : List ℕ) (events : List Event) → events ≡ [] → IsRead bytes events bytes
 read_begins bytes events e = subst (λ l. IsRead bytes l bytes) (sym e) (none_read bytes)
 
 pub read_goes_on : (bytes : List ℕ) (events events' : List Event) (rest : List ℕ) (e : Event) (after : List ℕ) → IsRead bytes events rest → event_in rest ≡ Some (e, after) → events' ≡ events ++ e ∷ [] → IsRead bytes events' after
 read_goes_on bytes events events' rest e after r h pushed = subst (λ l. IsRead bytes l after) (sym pushed) (one_read bytes events rest e after r h)
+
+-- ---- the events of the bytes, as a function
+
+from_more : (most line : ℕ) (bytes : List ℕ) → 0 < length bytes → events_from (suc most) line bytes ≡ elim (event_in bytes) [ None ↦ Err line | Some x ↦ prepended (x.0 ∷ []) (events_from most (line + 1) x.1) ]
+unfolding events_from
+from_more most line [] some = absurd (omega (arith, some))
+from_more most line (b ∷ bytes) some = refl
+
+prepended_twice : (e : Event) (events : List Event) (r : Result (List Event) ℕ) → prepended (e ∷ []) (prepended events r) ≡ prepended (e ∷ events) r
+prepended_twice e events (Ok later) = refl
+prepended_twice e events (Err line) = refl
+
+prepended_none : (r : Result (List Event) ℕ) → prepended [] r ≡ r
+prepended_none (Ok later) = refl
+prepended_none (Err line) = refl
+
+-- lines of events are read, and then the rest
+text_goes_on : (events : List Event) (rest : List ℕ) (most line : ℕ) → AllByRecursion IsEvent events → events_from (length events + most) line (events_text events ++ rest) ≡ prepended events (events_from most (line + length events) rest)
+unfolding events_text
+text_goes_on [] rest most line fit =
+    let none : length {A = Event} [] + most ≡ most = omega arith in
+    let first : line ≡ line + length {A = Event} [] = omega arith in
+    ap (λ m. events_from m line rest) none
+    ∙ ap (λ l. events_from most l rest) first
+    ∙ sym (prepended_none (events_from most (line + length {A = Event} []) rest))
+text_goes_on (e ∷ events) rest most line fit =
+    let tail : List ℕ = events_text events ++ rest in
+    let bytes : List ℕ = event_line e ++ tail in
+    let some : 0 < length bytes = omega (arith, length-append (event_line e) tail, line_some e) in
+    let assoc : (event_line e ++ events_text events) ++ rest ≡ bytes = append_assoc (event_line e) (events_text events) rest in
+    let lines : length (e ∷ events) + most ≡ suc (length events + most) = omega arith in
+    let next : line + 1 + length events ≡ line + length (e ∷ events) = omega arith in
+    ap (λ m. events_from m line ((event_line e ++ events_text events) ++ rest)) lines
+    ∙ ap (events_from (suc (length events + most)) line) assoc
+    ∙ from_more (length events + most) line bytes some
+    ∙ ap (λ (o : Option (Event × List ℕ)). elim o [ None ↦ Err line | Some x ↦ prepended (x.0 ∷ []) (events_from (length events + most) (line + 1) x.1) ]) (event_in_is e tail fit.0)
+    ∙ ap (prepended (e ∷ [])) (text_goes_on events rest most (line + 1) fit.1)
+    ∙ prepended_twice e events (events_from most (line + 1 + length events) rest)
+    ∙ ap (λ l. prepended (e ∷ events) (events_from most l rest)) next
+
+nothing_left : (most line : ℕ) → events_from most line [] ≡ Ok []
+unfolding events_from
+nothing_left most line = refl
+
+pub all_events : (bytes : List ℕ) (events : List Event) (rest : List ℕ) → IsRead bytes events rest → length rest ≡ 0 → events_of bytes ≡ Ok events
+unfolding events_of
+all_events bytes events [] r none =
+    let most : ℕ = length bytes - length events in
+    let enough : length bytes ≡ length events + most = omega (arith, r.few) in
+    ap (λ m. events_from m 1 bytes) enough
+    ∙ ap (events_from (length events + most) 1) r.is_text
+    ∙ text_goes_on events [] most 1 r.events_fit
+    ∙ ap (prepended events) (nothing_left most (1 + length events))
+    ∙ ap Ok (append-nil events)
+all_events bytes events (b ∷ rest) r none = absurd (omega (arith, none))
+
+pub no_event_at : (bytes : List ℕ) (events : List Event) (rest : List ℕ) (line : ℕ) → IsRead bytes events rest → 0 < length rest → event_in rest ≡ None → line ≡ length events + 1 → events_of bytes ≡ Err line
+unfolding events_of
+no_event_at bytes events rest line r some none is =
+    let most : ℕ = length bytes - length events - 1 in
+    let enough : length bytes ≡ length events + suc most = omega (arith, r.few, some) in
+    ap (λ m. events_from m 1 bytes) enough
+    ∙ ap (events_from (length events + suc most) 1) r.is_text
+    ∙ text_goes_on events rest (suc most) 1 r.events_fit
+    ∙ ap (prepended events) (from_more most (1 + length events) rest some ∙ ap (λ (o : Option (Event × List ℕ)). elim o [ None ↦ Err (1 + length events) | Some x ↦ prepended (x.0 ∷ []) (events_from most (1 + length events + 1) x.1) ]) none)
+    ∙ ap Err (omega (arith, is))

@@ -1,13 +1,12 @@
 -- How the lines of an events file are read, from the front of the bytes.
-use Rattle.std.specs.Prelude.{ℕ, ◌^◌, ◌&&◌, cond, List, [], ◌∷◌, take, drop, Option, Some, None, codes, decimal, nat_lt, ◌==◌}
+use Rattle.std.specs.Prelude.{ℕ, ◌+◌, ◌^◌, zero, suc, cond, List, [], ◌∷◌, ◌++◌, length, take, drop, Option, Some, None, Result, Ok, Err, codes, ◌==◌}
 use Rattle.std.specs.Borrow.{Bor}
 use Rattle.std.specs.Char.{is_ascii_digit}
 use Rattle.std.specs.List.{prefix_len}
 use Rattle.std.specs.Option.{option_and_then}
-use Rattle.std.specs.Str.Parse.{digits_value}
 use Rattle.mls_model.specs.declared.launcher.Event.{Event}
 use Rattle.mls_model.specs.declared.launcher.Event.TheVariants.{Tick, Beat, Done, RankBeat}
-use Rattle.mls_model.specs.Numbers.{same_bytes}
+use Rattle.mls_text.specs.Decimals.{number_below}
 
 -- what was read, with the bytes behind it, wherever they lie in memory
 abbrev pub seen : {A : Type 0} → Option (A × Bor (List ℕ)) → Option (A × List ℕ)
@@ -24,10 +23,6 @@ after_in [] bytes = Some bytes
 after_in (c ∷ front) [] = None
 after_in (c ∷ front) (b ∷ bytes) = cond (c == b) (after_in front bytes) None
 
--- the number below 2 ^ 32 that digits spell
-unfoldable pub number_of : List ℕ → Option ℕ
-number_of digits = cond (same_bytes (decimal (digits_value 10 digits)) digits && nat_lt (digits_value 10 digits) (2 ^ 32)) (Some (digits_value 10 digits)) None
-
 -- one of two, by whether the bytes begin with a word
 abbrev pub behind : {A : Type 0} → (List ℕ → A) → A → Option (List ℕ) → A
 behind there other None = other
@@ -35,7 +30,7 @@ behind there other (Some rest) = there rest
 
 -- the number that the digits at the front spell
 unfoldable pub number_in : List ℕ → Option (ℕ × List ℕ)
-number_in bytes = option_and_then (λ n. Some (n, drop (prefix_len is_ascii_digit bytes) bytes)) (number_of (take (prefix_len is_ascii_digit bytes) bytes))
+number_in bytes = option_and_then (λ n. Some (n, drop (prefix_len is_ascii_digit bytes) bytes)) (number_below (2 ^ 32) (take (prefix_len is_ascii_digit bytes) bytes))
 
 -- a number with a byte behind it
 unfoldable pub number_before : ℕ → List ℕ → Option (ℕ × List ℕ)
@@ -62,3 +57,19 @@ event_in bytes =
     (after_in (codes "done ") bytes))
     (after_in (codes "beat ") bytes))
     (after_in (codes "tick ") bytes)
+
+-- events before those that are read later
+abbrev pub prepended : List Event → Result (List Event) ℕ → Result (List Event) ℕ
+prepended events (Ok later) = Ok (events ++ later)
+prepended events (Err line) = Err line
+
+-- the events in at most so many lines, of which the first has a number, or the number of the first line that is the
+-- line of no event
+unfoldable pub events_from : (most line : ℕ) → List ℕ → Result (List Event) ℕ
+events_from most line [] = Ok []
+events_from zero line (b ∷ bytes) = Err line
+events_from (suc most) line (b ∷ bytes) = elim (event_in (b ∷ bytes)) [ None ↦ Err line | Some x ↦ prepended (x.0 ∷ []) (events_from most (line + 1) x.1) ]
+
+-- The events of a file, or the number of the first line that is the line of no event. No line is empty.
+unfoldable pub events_of : List ℕ → Result (List Event) ℕ
+events_of bytes = events_from (length bytes) 1 bytes

@@ -3,8 +3,8 @@
 ghost use Rattle.std.specs.Prelude.{◌≡◌, slice_set};
 ghost use Rattle.mls_launch.specs.Rows.{lasts_with, rows_with, lasts_after, rows_after, lasts_heard, rows_heard, row_at};
 
-use mls_model::launcher::{Action, Event};
 use crate::rows::Row;
+use mls_model::launcher::{Action, Event};
 
 fn set_last(lasts: &mut [u32], rank: u32, time: u32)
     ensures { lasts.new ≡ slice_set lasts.old rank time }

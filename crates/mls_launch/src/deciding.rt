@@ -3,9 +3,9 @@
 ghost use Rattle.std.specs.Prelude.{◌≡◌, ◌+◌, ◌-◌, ◌++◌, ◌<◌, ◌≤◌, length, OnOk};
 ghost use Rattle.mls_launch.specs.Rows.{ranks_due, groups_due, staying, starts_due, stays_on};
 
-use mls_model::launcher::Action;
 use crate::rows::Row;
 use mls_base::faults::NoMemory;
+use mls_model::launcher::Action;
 
 /// Restarts the silent ranks.
 #[tactic(auto, using(crate::proofs::Chosen::due_steps))]

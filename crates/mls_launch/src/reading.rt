@@ -1,16 +1,16 @@
 //! The events file, a line for each event.
 
-ghost use Rattle.std.specs.Prelude.{◌≡◌, ◌≤◌, ℕ, List, [], ◌∷◌, length, IfOk, IfErr, false};
+ghost use Rattle.std.specs.Prelude.{◌≡◌, ◌≤◌, ◌^◌, ℕ, List, [], ◌∷◌, length, Ok, IfOk, IfErr, MatchResult, false};
 ghost use Rattle.std.specs.List.{prefix_len};
 ghost use Rattle.std.specs.Char.{is_ascii_digit};
 ghost use Rattle.mls_launch.specs.EventsText.{events_text};
-ghost use Rattle.mls_launch.specs.EventFaults.{IsRefused};
-ghost use Rattle.mls_launch.specs.EventReading.{seen, seen_rest, after_in, number_of, number_in, number_before, tick_in, rank_in, life_in, event_in};
+ghost use Rattle.mls_text.specs.Decimals.{number_below};
+ghost use Rattle.mls_launch.specs.EventFaults.{IsRefused, IsExact};
+ghost use Rattle.mls_launch.specs.EventReading.{seen, seen_rest, after_in, number_in, number_before, tick_in, rank_in, life_in, event_in, events_of};
 
 use mls_model::launcher::Event;
-use itoa::Buffer;
+use mls_text::canonical_number;
 use std::alloc::{AllocFailed, Global};
-use std::str;
 
 /// Why bytes are no events file.
 #[derive(Clone, Copy, Debug, PartialEq, Eq)]
@@ -46,23 +46,17 @@ fn digit_count(bytes: &[u8]) -> usize
     bytes.len()
 }
 
-/// The number that digits spell.
+/// The number below 2^32 that digits spell.
 fn number_of(digits: &[u8]) -> Option<u32>
-    ensures { result ≡ number_of digits.now }
+    ensures { result ≡ number_below (2 ^ 32) digits.now }
 {
-    let text = match str::from_utf8(digits) {
-        Ok(text) => text,
-        Err(_) => return None,
-    };
-    let number = match text.parse::<u32>() {
-        Ok(number) => number,
-        Err(_) => return None,
-    };
-    let mut buffer = Buffer::new();
-    if buffer.format(number).as_bytes() == digits {
-        return Some(number);
+    match canonical_number(digits) {
+        Some(number) => match u32::try_from(number) {
+            Ok(number) => return Some(number),
+            Err(_) => return None,
+        },
+        None => return None,
     }
-    None
 }
 
 /// The number that the digits at the front spell, and the bytes behind it.
@@ -162,6 +156,7 @@ pub fn read_events(alloc: Global, bytes: &[u8]) -> Result<Vec<Event>, EventFault
     requires { length bytes.now ≤ 16777216 }
     ensures read { IfOk result (λ events. bytes.now ≡ events_text events.items) }
     ensures refused { IfErr result (λ fault. IsRefused fault bytes.now) }
+    ensures exact { MatchResult result (λ events. events_of bytes.now ≡ Ok events.items) (λ fault. IsExact fault (events_of bytes.now)) }
 {
     let mut events = Vec::new(alloc);
     let mut rest = bytes;

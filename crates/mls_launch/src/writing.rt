@@ -7,13 +7,13 @@ ghost use Rattle.mls_launch.specs.Writing.{AreTotals, WritesOut};
 ghost use Rattle.mls_model.specs.WatchText.{watch_title, life_line, number_line, action_line, action_lines, pair_words, line_end, end_words, watch_text};
 
 use crate::faults::OutFault;
-use mls_model::launcher::{Action, Event, Timed};
 use crate::totals::Totals;
 use crate::watch::Watch;
 use itoa::Buffer;
 use mls_base::faults::{Failed, NoMemory};
 use mls_base::outside::Sink;
 use mls_base::shape::Shape;
+use mls_model::launcher::{Action, Event, Timed};
 use mls_text::{put_bytes, put_pieces};
 use std::alloc::Global;
 

@@ -1,5 +1,5 @@
 -- How texts that are written one after another make one text.
-use Rattle.std.proofs.Common.{◌≡◌, List, [], ◌∷◌, ℕ, ◌++◌, ◌<◌, ◌≤◌, length, Option, Some, None, take, drop, map, true, false, refl, sym, ◌∙◌, ap, subst, append_assoc, Result, Ok, Err, arith, rules, get_or}
+use Rattle.std.proofs.Common.{◌≡◌, List, [], ◌∷◌, ℕ, ◌++◌, ◌<◌, ◌≤◌, length, Option, Some, None, take, drop, map, true, false, refl, sym, ◌∙◌, ap, subst, append_assoc, Result, Ok, Err, get_or}
 use Rattle.std.proofs.lemmas.List.{take-append-drop, drop_all}
 use Rattle.std.proofs.Common.{add-one, drop-cons, ◌+◌}
 use Rattle.mls_model.specs.Numbers.{joined}

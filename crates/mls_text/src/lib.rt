@@ -1,4 +1,4 @@
-//! Texts of several pieces, written to a sink one after another without memory.
+//! Texts of several pieces, written to a sink one after another without memory, and numbers read from texts.
 //!
 //! A call that writes a text has one clause, `Writes`: after `Ok` the text was appended and no count rose;
 //! after `Failed` a front of it went out and the sink's count of faults rose.
@@ -8,7 +8,10 @@ ghost use Rattle.std.specs.Prelude.{◌≡◌, map};
 ghost use Rattle.mls_model.specs.Numbers.{joined};
 ghost use Rattle.mls_text.specs.Writing.{Writes, GathersOn};
 
+mod decimal;
+
 use arrayvec::ArrayVec;
+pub use decimal::canonical_number;
 use mls_base::faults::Failed;
 use mls_base::outside::Sink;
 use mls_base::put::put_all;
@@ -49,3 +52,6 @@ pub fn put_pieces<O: Sink>(out: &mut O, pieces: &[&[u8]]) -> Result<(), Failed>
     }
     put_bytes(out, gathered.as_slice())
 }
+
+#[cfg(test)]
+mod tests;

@@ -1,4 +1,4 @@
-use Rattle.std.proofs.Common.{◌≡◌, List, ℕ, ◌∙◌, ap, sym, subst}
+use Rattle.std.proofs.Common.{List, ℕ, ◌∙◌, ap, sym, subst}
 use Rattle.mls_base.specs.Told.{appended, WroteFront}
 use Rattle.mls_text.proofs.Writing.{gathers_second, gathers_failed, on_err}
 use Rattle.mls_text.proofs.gather.Goals as goal

@@ -1,4 +1,4 @@
-use Rattle.mls_text.proofs.Writing.{gathered_more, gathered_failed, gathered_last, rose_since, failed_writes}
+use Rattle.mls_text.proofs.Writing.{gathered_more, gathered_failed, rose_since, failed_writes}
 use Rattle.mls_text.proofs.put_pieces.Goals as goal
 
 pub returns-in_err-gather : goal.returns-in_err-gather

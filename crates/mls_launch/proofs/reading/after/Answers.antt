@@ -1,5 +1,6 @@
 use Rattle.std.proofs.Common.{sym, ap, ◌∙◌, arith, Some}
-use Rattle.mls_launch.proofs.EventReading.{after_there, after_none, bytes_true, bytes_false}
+use Rattle.mls_text.proofs.Decimals.{bytes_true, bytes_false}
+use Rattle.mls_launch.proofs.EventReading.{after_there, after_none}
 use Rattle.mls_launch.proofs.reading.after.Goals as goal
 use Rattle.mls_launch.proofs.reading.after.Goals.{then-front-bytes+else-eq, else-front-bytes}
 

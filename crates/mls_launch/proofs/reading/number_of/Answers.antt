@@ -1,21 +1,18 @@
-use Rattle.std.proofs.Common.{◌<◌, ◌^◌, sym, ◌∙◌, arith}
-use Rattle.mls_launch.proofs.EventReading.{number_of_is, number_of_none, decimal_utf8, not_parsed, parsed_other, bytes_true, bytes_false}
+use Rattle.std.proofs.Common.{◌<◌, ◌^◌, sym, ap, ◌∙◌, Some, inl, inr, arith}
+use Rattle.std.proofs.lemmas.Bool.{cases_lt}
+use Rattle.mls_text.proofs.Decimals.{number_within, number_beyond, number_of_none}
 use Rattle.mls_launch.proofs.reading.number_of.Goals as goal
 
+pub returns-in-Ok : goal.returns-in-Ok
+returns-in-Ok c =
+    let small : c.in-Some.number < 2 ^ 32 = c.in-Ok.ensures.0 in
+    ap Some c.in-Ok.ensures.1 ∙ sym (number_within (2 ^ 32) (2 ^ 64) c.args.digits.now c.in-Some.number (omega arith) (sym c.in-Some.ensures) small)
+
 pub returns-in-Err : goal.returns-in-Err
-returns-in-Err c = sym (number_of_none c.args.digits.now (λ n small e. c.in-Err.ensures.cases.0 (decimal_utf8 c.args.digits.now n small e)))
+returns-in-Err c = elim (cases_lt c.in-Some.number (2 ^ 32)) [
+  | inl lt ↦ absurd (c.in-Err.ensures lt)
+  | inr le ↦ sym (number_beyond (2 ^ 32) (2 ^ 64) c.args.digits.now c.in-Some.number (omega arith) (sym c.in-Some.ensures) le)
+]
 
-pub returns-in-Err-parse : goal.returns-in-Err-parse
-returns-in-Err-parse c =
-    sym (number_of_none c.args.digits.now (not_parsed c.args.digits.now c.in-Ok.text.now c.parse.result c.in-Err-parse.field-0 c.parse.ensures.value.0 c.in-Ok.ensures.cases.0 c.in-Err-parse.is))
-
-pub returns-then-eq : goal.returns-then-eq
-returns-then-eq c =
-    let small : c.in-Ok-parse.number < 2 ^ 32 = omega (arith, c.in-Ok-parse.ensures.value.0.0.1, c.in-Ok-parse.ensures.value.0.1) in
-    sym (number_of_is c.args.digits.now c.in-Ok-parse.number small
-    (sym (bytes_true c.as_bytes.result.now c.args.digits.now c.eq.result c.eq.ensures c.if-eq.true) ∙ c.as_bytes.ensures.value ∙ c.format.ensures.text))
-
-pub returns : goal.returns
-returns c =
-    sym (number_of_none c.args.digits.now (parsed_other c.args.digits.now c.in-Ok.text.now c.parse.result c.in-Ok-parse.number c.parse.ensures.value.0 c.in-Ok.ensures.cases.0 c.in-Ok-parse.is
-    (λ e. bytes_false c.as_bytes.result.now c.args.digits.now c.eq.result c.eq.ensures c.if-eq.false (c.as_bytes.ensures.value ∙ c.format.ensures.text ∙ sym e))))
+pub returns-in-None : goal.returns-in-None
+returns-in-None c = sym (number_of_none (2 ^ 32) (2 ^ 64) c.args.digits.now (omega arith) (omega arith) (sym c.in-None.ensures))

@@ -1,6 +1,6 @@
 use Rattle.std.proofs.Common.{◌≡◌, ◌<◌, ◌+◌, length, sym, arith}
 use Rattle.std.proofs.lemmas.Bool.Decides.{nat_tests}
-use Rattle.mls_launch.proofs.EventReading.{read_begins, read_goes_on, shorter, refused}
+use Rattle.mls_launch.proofs.EventReading.{read_begins, read_goes_on, shorter, refused, all_events, no_event_at}
 use Rattle.mls_launch.proofs.reading.read_events.Goals as goal
 
 pub loop-rest-init : goal.loop-rest-init
@@ -17,3 +17,14 @@ returns-in-None-clause-refused c =
     let some : 0 < length c.loop-rest.rest.now = grind (arith, nat_tests, c.is_empty.ensures, c.loop-rest-test.ensures) in
     let line : c.len.result + 1 ≡ length c.loop-rest.events.items + 1 = omega (arith, c.len.ensures) in
     refused c.args.bytes.now c.loop-rest.events.items c.loop-rest.rest.now (c.len.result + 1) c.loop-rest.invariant some (sym c.in-None.ensures) line
+
+pub returns-in-None-clause-exact : goal.returns-in-None-clause-exact
+returns-in-None-clause-exact c =
+    let some : 0 < length c.loop-rest.rest.now = grind (arith, nat_tests, c.is_empty.ensures, c.loop-rest-test.ensures) in
+    let line : c.len.result + 1 ≡ length c.loop-rest.events.items + 1 = omega (arith, c.len.ensures) in
+    no_event_at c.args.bytes.now c.loop-rest.events.items c.loop-rest.rest.now (c.len.result + 1) c.loop-rest.invariant some (sym c.in-None.ensures) line
+
+pub returns-clause-exact : goal.returns-clause-exact
+returns-clause-exact c =
+    let none : length c.loop-rest.rest.now ≡ 0 = grind (arith, nat_tests, c.is_empty.ensures, c.loop-rest-test.ensures) in
+    all_events c.args.bytes.now c.loop-rest.events.items c.loop-rest.rest.now c.loop-rest.invariant none
