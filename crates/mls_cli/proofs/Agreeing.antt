@@ -1,21 +1,26 @@
 -- Steps one after another, against what is right.
-use Rattle.std.proofs.Common.{◌≡◌, ℕ, List, Option, Result, Ok, Err, refl, ap, sym, subst, Bool, true, false, cond, ◌&&◌, [], ◌∷◌, bytes_eq, codes}
-use Rattle.std.specs.Bool.{⊤}
+use Rattle.std.proofs.Common.{◌≡◌, ℕ, List, Option, Some, None, Result, Ok, Err, refl, ap, sym, subst}
 use Rattle.mls_base.specs.Told.{Names}
+use Rattle.mls_model.specs.declared.launcher.Event.{Event}
 use Rattle.mls_model.specs.Lanes.{Lane}
 use Rattle.mls_model.specs.Schedules.{plain}
 use Rattle.mls_model.specs.ResultText.{result_text}
+use Rattle.mls_model.specs.WatchText.{watch_text}
 use Rattle.mls_model.specs.Studies.{Study}
+use Rattle.mls_launch.specs.Writing.{WritesOut}
+use Rattle.mls_launch.specs.declared.faults.OutFault.{OutFault}
+use Rattle.mls_launch.specs.declared.faults.OutFault.TheVariants as out
 use Rattle.mls_replay.specs.Folding.{Folds}
 use Rattle.mls_result.specs.declared.fault.FoldFault.{FoldFault}
 use Rattle.mls_result.specs.declared.fault.FoldFault.TheVariants.{WriteFault, Memory}
-use Rattle.mls_result.specs.declared.status.Status.TheVariants as status
-use Rattle.mls_cli.specs.Answers.{Answers, fold_status}
-use Rattle.mls_cli.specs.Words.{FoldNames, names_of, fold_names, is_word, is_later_command}
 use Rattle.mls_result.specs.declared.status.Status.{Status}
+use Rattle.mls_result.specs.declared.status.Status.TheVariants as status
+use Rattle.mls_cli.specs.declared.words.Words.{Words}
 use Rattle.mls_cli.specs.declared.steps.Refusal.{Refusal}
 use Rattle.mls_cli.specs.declared.steps.Refusal.TheVariants as refusal
-use Rattle.mls_cli.specs.Ideal.{◌>>=◌, right_study, right_lanes, right_fold, ideal}
+use Rattle.mls_cli.specs.Answers.{Answers, fold_status, watch_status}
+use Rattle.mls_cli.specs.Words.{words_of}
+use Rattle.mls_cli.specs.Ideal.{◌>>=◌, command_or_usage, right_study, right_fold_study, right_lanes, right_events, right_fold, right_watch, right_command, ideal}
 use Rattle.mls_cli.specs.Refusals.{IsRefused, Agrees}
 
 -- a refusal of the first step is one of both
@@ -26,6 +31,7 @@ refused_first (refusal.Study fault) right next is = ap (λ o. o >>= next) is
 refused_first (refusal.Tape at why) right next is = ap (λ o. o >>= next) is
 refused_first (refusal.NotBuilt part) right next is = ap (λ o. o >>= next) is
 refused_first (refusal.TooLong file) right next is = ap (λ o. o >>= next) is
+refused_first (refusal.Events line) right next is = ap (λ o. o >>= next) is
 
 -- what the second step answers is right for both
 pub agrees_second : {A B C : Type 0} (view : C → B) (result : Result C Refusal) (right : Result A Status) (x : A) (next : A → Result B Status) → right ≡ Ok x → Agrees view result (next x) → Agrees view result (right >>= next)
@@ -35,17 +41,31 @@ agrees_second {A} view result right x next first second =
 
 -- ---- the two files of a fold
 
-pub fold_refused_study : (held : Names) (names : FoldNames) (r : Refusal) → IsRefused r (right_study held names.study) → IsRefused r (right_fold held names)
+pub fold_refused_study : (held : Names) (study_name tape_name : List ℕ) (r : Refusal) → IsRefused r (right_fold_study held study_name) → IsRefused r (right_fold held study_name tape_name)
 unfolding right_fold
-fold_refused_study held names r is = refused_first r (right_study held names.study) _ is
+fold_refused_study held study_name tape_name r is = refused_first r (right_fold_study held study_name) _ is
 
-pub fold_refused_tape : (held : Names) (names : FoldNames) (r : Refusal) (study : Study) → right_study held names.study ≡ Ok study → IsRefused r (right_lanes held study names.tape) → IsRefused r (right_fold held names)
+pub fold_refused_tape : (held : Names) (study_name tape_name : List ℕ) (r : Refusal) (study : Study) → right_fold_study held study_name ≡ Ok study → IsRefused r (right_lanes held study tape_name) → IsRefused r (right_fold held study_name tape_name)
 unfolding right_fold
-fold_refused_tape held names r study first is = rw (first) (refused_first r (right_lanes held study names.tape) _ is)
+fold_refused_tape held study_name tape_name r study first is = rw (first) (refused_first r (right_lanes held study tape_name) _ is)
 
-pub fold_of : (held : Names) (names : FoldNames) (study : Study) (lanes : List Lane) → right_study held names.study ≡ Ok study → right_lanes held study names.tape ≡ Ok lanes → right_fold held names ≡ Ok (result_text study lanes (plain study.sizes.ranks lanes))
+pub fold_of : (held : Names) (study_name tape_name : List ℕ) (study : Study) (lanes : List Lane) → right_fold_study held study_name ≡ Ok study → right_lanes held study tape_name ≡ Ok lanes → right_fold held study_name tape_name ≡ Ok (result_text study lanes (plain study.sizes.ranks lanes))
 unfolding right_fold
-fold_of held names study lanes first second = rw (first, second) refl
+fold_of held study_name tape_name study lanes first second = rw (first, second) refl
+
+-- ---- the two files of a watch
+
+pub watch_refused_study : (held : Names) (study_name events_name : List ℕ) (r : Refusal) → IsRefused r (right_study held study_name) → IsRefused r (right_watch held study_name events_name)
+unfolding right_watch
+watch_refused_study held study_name events_name r is = refused_first r (right_study held study_name) _ is
+
+pub watch_refused_events : (held : Names) (study_name events_name : List ℕ) (r : Refusal) (study : Study) → right_study held study_name ≡ Ok study → IsRefused r (right_events held events_name) → IsRefused r (right_watch held study_name events_name)
+unfolding right_watch
+watch_refused_events held study_name events_name r study first is = rw (first) (refused_first r (right_events held events_name) _ is)
+
+pub watch_of : (held : Names) (study_name events_name : List ℕ) (study : Study) (events : List Event) → right_study held study_name ≡ Ok study → right_events held events_name ≡ Ok events → right_watch held study_name events_name ≡ Ok (watch_text study.sizes events)
+unfolding right_watch
+watch_of held study_name events_name study events first second = rw (first, second) refl
 
 -- ---- what a command answers
 
@@ -59,45 +79,26 @@ folded right text old new before now A (Err WriteFault) is f =
     subst P (sym is) f.0
 folded right text old new before now A (Err Memory) is f = f.0
 
--- words are refused as usage or as not built
-abbrev IsWordRefusal : Result FoldNames Status → Type 0
-IsWordRefusal (Ok names) = ⊤
-IsWordRefusal (Err status.Usage) = ⊤
-IsWordRefusal (Err (status.NotBuilt part)) = ⊤
-IsWordRefusal (Err s) = ⊥
+-- a watch that went so answers so
+pub watched : (right : Result (List ℕ) Status) (text : List ℕ) (old new : Option (List ℕ)) (before now : ℕ) (A : Type 0) (answer : Result A OutFault) → right ≡ Ok text → WritesOut answer text old new before now → Answers right old new (watch_status answer)
+watched right text old new before now A (Ok done) is f =
+    let P : Result (List ℕ) Status → Type 0 = λ o. Answers o old new status.Done in
+    subst P (sym is) f.0
+watched right text old new before now A (Err out.WriteFault) is f =
+    let P : Result (List ℕ) Status → Type 0 = λ o. Answers o old new status.WriteFault in
+    subst P (sym is) f.0
+watched right text old new before now A (Err out.Memory) is f = f.0
 
-either : (b : Bool) (x y : Result FoldNames Status) → IsWordRefusal x → IsWordRefusal y → IsWordRefusal (cond b x y)
-either true x y h k = h
-either false x y h k = k
-
-fold_refused : (names : List (List ℕ)) → IsWordRefusal (fold_names names)
-fold_refused [] = tt
-fold_refused (a ∷ []) = tt
-fold_refused (a ∷ b ∷ []) = either (is_word a && is_word b) _ _ tt tt
-fold_refused (a ∷ b ∷ c ∷ []) = either (is_word a && is_word b && is_word c) _ _ tt tt
-fold_refused (a ∷ b ∷ c ∷ d ∷ rest) = tt
-
-words_refused : (words : List (List ℕ)) → IsWordRefusal (names_of words)
-words_refused [] = tt
-words_refused (command ∷ names) = either (bytes_eq command (codes "fold")) _ _ (fold_refused names) (either (is_later_command command) _ _ tt tt)
-
-refusal_answers : (held : Names) (names : Result FoldNames Status) (old : Option (List ℕ)) (s : Status) → IsWordRefusal (Err s) → names ≡ Err s → Answers (names >>= right_fold held) old old s
-refusal_answers held names old status.Usage h is = (ap (λ o. o >>= right_fold held) is, refl)
-refusal_answers held names old (status.NotBuilt part) h is = (ap (λ o. o >>= right_fold held) is, refl)
-refusal_answers held names old status.Done h is = absurd h
-refusal_answers held names old status.WriteFault h is = absurd h
-refusal_answers held names old status.Memory h is = absurd h
-refusal_answers held names old status.ReadFault h is = absurd h
-refusal_answers held names old s h is = absurd h
-
--- words that are refused answer so
-pub answers_words : (held : Names) (words : List (List ℕ)) (old : Option (List ℕ)) (s : Status) → names_of words ≡ Err s → Answers (ideal held words) old old s
+-- words that are no command
+pub answers_usage : (held : Names) (words : List (List ℕ)) (old : Option (List ℕ)) → words_of words ≡ None → Answers (ideal held words) old old status.Usage
 unfolding ideal
-answers_words held words old s is = refusal_answers held (names_of words) old s (subst IsWordRefusal is (words_refused words)) is
+answers_usage held words old is =
+    let P : Option Words → Type 0 = λ o. Answers (command_or_usage o >>= right_command held) old old status.Usage in
+    subst P (sym is) (refl, refl)
 
--- words with these names answer as their fold does
-pub answers_fold : (held : Names) (words : List (List ℕ)) (names : FoldNames) (old new : Option (List ℕ)) (s : Status) → names_of words ≡ Ok names → Answers (right_fold held names) old new s → Answers (ideal held words) old new s
+-- words that are a command answer as it does
+pub answers_command : (held : Names) (words : List (List ℕ)) (command : Words) (old new : Option (List ℕ)) (s : Status) → words_of words ≡ Some command → Answers (right_command held command) old new s → Answers (ideal held words) old new s
 unfolding ideal
-answers_fold held words names old new s is h =
-    let P : Result FoldNames Status → Type 0 = λ o. Answers (o >>= right_fold held) old new s in
+answers_command held words command old new s is h =
+    let P : Option Words → Type 0 = λ o. Answers (command_or_usage o >>= right_command held) old new s in
     subst P (sym is) h

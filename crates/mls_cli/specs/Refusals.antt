@@ -1,4 +1,4 @@
--- Why a fold has no inputs, against what is right.
+-- Why a command has no inputs, against what is right.
 use Rattle.std.specs.Prelude.{◌≡◌, ℕ, Result, Ok, Err, ⊤}
 use Rattle.mls_base.specs.Told.{Rose}
 use Rattle.mls_model.specs.Studies.{Study}
@@ -18,6 +18,7 @@ status_of (refusal.Study fault) = status.Study fault
 status_of (refusal.Tape at why) = status.Tape at why
 status_of (refusal.NotBuilt part) = status.NotBuilt part
 status_of (refusal.TooLong file) = status.TooLong file
+status_of (refusal.Events line) = status.Events line
 
 -- A refusal is the one that is right. A failed read and want of memory say nothing of what is held.
 abbrev pub IsRefused : {A : Type 0} → Refusal → Result A Status → Type 0
@@ -27,6 +28,7 @@ IsRefused (refusal.Study fault) right = right ≡ Err (status.Study fault)
 IsRefused (refusal.Tape at why) right = right ≡ Err (status.Tape at why)
 IsRefused (refusal.NotBuilt part) right = right ≡ Err (status.NotBuilt part)
 IsRefused (refusal.TooLong file) right = right ≡ Err (status.TooLong file)
+IsRefused (refusal.Events line) right = right ≡ Err (status.Events line)
 
 -- what was answered, seen by view, is what is right
 abbrev pub Agrees : {A B : Type 0} → (A → B) → Result A Refusal → Result B Status → Type 0
@@ -41,6 +43,7 @@ Counts (refusal.Study fault) before now = now ≡ before
 Counts (refusal.Tape at why) before now = now ≡ before
 Counts (refusal.NotBuilt part) before now = now ≡ before
 Counts (refusal.TooLong file) before now = now ≡ before
+Counts (refusal.Events line) before now = now ≡ before
 
 -- no read failed
 abbrev pub IsOfContent : Refusal → Type 0
@@ -50,6 +53,7 @@ IsOfContent (refusal.Study fault) = ⊤
 IsOfContent (refusal.Tape at why) = ⊤
 IsOfContent (refusal.NotBuilt part) = ⊤
 IsOfContent (refusal.TooLong file) = ⊤
+IsOfContent (refusal.Events line) = ⊤
 
 -- how a command is refused whose study has this fault
 abbrev pub study_refusal : StudyFault → Refusal

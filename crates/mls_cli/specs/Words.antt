@@ -1,31 +1,80 @@
--- Which words are a command.
-use Rattle.std.specs.Prelude.{ℕ, Bool, false, not, ◌&&◌, cond, List, [], ◌∷◌, bytes_eq, codes, Result, Ok, Err, ◌==◌}
-use Rattle.std.specs.List.{list_any}
-use Rattle.mls_result.specs.declared.status.Status.{Status}
-use Rattle.mls_result.specs.declared.status.Status.TheVariants.{Usage, NotBuilt}
-use Rattle.mls_result.specs.declared.status.Part.TheVariants as part
+-- Which words are a command of melissa, with the names and numbers in their places.
+use Rattle.std.specs.Prelude.{◌≡◌, ℕ, ◌^◌, Bool, false, not, cond, List, [], ◌∷◌, bytes_eq, codes, Option, Some, None, Result, Ok, Err, ◌==◌}
+use Rattle.std.specs.List.{list_all}
+use Rattle.std.specs.Option.{option_and_then}
+use Rattle.mls_text.specs.Decimals.{number_below}
+use Rattle.mls_cli.specs.declared.words.Words.{Words}
+use Rattle.mls_cli.specs.declared.words.Words.TheVariants.{Fold, Design, Trial, Watch, Bins, Export, Resume}
+use Rattle.mls_cli.specs.declared.words.WordsFault.{WordsFault}
+use Rattle.mls_cli.specs.declared.words.WordsFault.TheVariants.{Usage, Memory}
 
 -- a word that is not empty and does not begin with -
 abbrev pub is_word : List ℕ → Bool
 is_word [] = false
 is_word (b ∷ bs) = not (b == 45)
 
--- the names of a study and a tape
-pub record FoldNames : Type 0 where
-  pub study : List ℕ
-  pub tape : List ℕ
+-- STUDY TAPE [SCHEDULE]
+abbrev pub fold_in : List (List ℕ) → Option Words
+fold_in (study ∷ tape ∷ []) = Some (Fold study tape None)
+fold_in (study ∷ tape ∷ schedule ∷ []) = Some (Fold study tape (Some schedule))
+fold_in _ = None
 
--- the names behind the word fold: two, or three with a schedule
-abbrev pub fold_names : List (List ℕ) → Result FoldNames Status
-fold_names (study ∷ tape ∷ []) = cond (is_word study && is_word tape) (Ok (record { study = study; tape = tape })) (Err Usage)
-fold_names (study ∷ tape ∷ schedule ∷ []) = cond (is_word study && is_word tape && is_word schedule) (Err (NotBuilt part.Schedule)) (Err Usage)
-fold_names _ = Err Usage
+-- STUDY
+abbrev pub design_in : List (List ℕ) → Option Words
+design_in (study ∷ []) = Some (Design study)
+design_in _ = None
 
--- the commands that are not built yet
-abbrev pub is_later_command : List ℕ → Bool
-is_later_command word = list_any (bytes_eq word) (codes "design" ∷ codes "trial" ∷ codes "watch" ∷ codes "bins" ∷ codes "export" ∷ codes "resume" ∷ [])
+-- STUDY NUMBER [TAPE SCHEDULE], both of them or neither; the number is a canonical decimal below 2 ^ 64
+abbrev pub trial_in : List (List ℕ) → Option Words
+trial_in (study ∷ number ∷ []) = option_and_then (λ n. Some (Trial study n None)) (number_below (2 ^ 64) number)
+trial_in (study ∷ number ∷ tape ∷ schedule ∷ []) = option_and_then (λ n. Some (Trial study n (Some (record { tape = tape; schedule = schedule })))) (number_below (2 ^ 64) number)
+trial_in _ = None
 
--- the names of a fold, or the refusal of the words
-abbrev pub names_of : List (List ℕ) → Result FoldNames Status
-names_of [] = Err Usage
-names_of (command ∷ names) = cond (bytes_eq command (codes "fold")) (fold_names names) (cond (is_later_command command) (Err (NotBuilt part.Command)) (Err Usage))
+-- STUDY EVENTS
+abbrev pub watch_in : List (List ℕ) → Option Words
+watch_in (study ∷ events ∷ []) = Some (Watch study events)
+watch_in _ = None
+
+-- STUDY TAPE [SCHEDULE]
+abbrev pub bins_in : List (List ℕ) → Option Words
+bins_in (study ∷ tape ∷ []) = Some (Bins study tape None)
+bins_in (study ∷ tape ∷ schedule ∷ []) = Some (Bins study tape (Some schedule))
+bins_in _ = None
+
+-- STUDY PREFIX
+abbrev pub export_in : List (List ℕ) → Option Words
+export_in (study ∷ prefix ∷ []) = Some (Export study prefix)
+export_in _ = None
+
+-- STUDY OLD PREFIX TAPE [SCHEDULE]; OLD is a canonical decimal below 2 ^ 32
+abbrev pub resume_in : List (List ℕ) → Option Words
+resume_in (study ∷ old ∷ prefix ∷ tape ∷ []) = option_and_then (λ n. Some (Resume study n prefix tape None)) (number_below (2 ^ 32) old)
+resume_in (study ∷ old ∷ prefix ∷ tape ∷ schedule ∷ []) = option_and_then (λ n. Some (Resume study n prefix tape (Some schedule))) (number_below (2 ^ 32) old)
+resume_in _ = None
+
+-- the command of a name, with the words behind it
+unfoldable pub command_in : List ℕ → List (List ℕ) → Option Words
+command_in command names =
+    cond (bytes_eq command (codes "fold")) (fold_in names)
+    (cond (bytes_eq command (codes "design")) (design_in names)
+    (cond (bytes_eq command (codes "trial")) (trial_in names)
+    (cond (bytes_eq command (codes "watch")) (watch_in names)
+    (cond (bytes_eq command (codes "bins")) (bins_in names)
+    (cond (bytes_eq command (codes "export")) (export_in names)
+    (cond (bytes_eq command (codes "resume")) (resume_in names)
+    None))))))
+
+-- The command that words are. No word behind its name is empty or begins with -.
+unfoldable pub words_of : List (List ℕ) → Option Words
+words_of [] = None
+words_of (command ∷ names) = cond (list_all is_word names) (command_in command names) None
+
+abbrev pub IsThere : {A : Type 0} → Option A → Type 0
+IsThere None = ⊥
+IsThere (Some x) = Unit {0}
+
+-- What was read is the command; usage is answered where there is none, and want of memory only where there is one.
+abbrev pub Reads : Result Words WordsFault → Option Words → Type 0
+Reads (Ok words) right = right ≡ Some words
+Reads (Err Usage) right = right ≡ None
+Reads (Err Memory) right = IsThere right

@@ -1,116 +1,95 @@
 //! The top call.
 
-ghost use Rattle.std.specs.Prelude.{◌≡◌, ◌↔◌, true, map, string_bytes, vec_len, Some, Ok, Err, IfOk, IfErr, OnOk, MatchResult};
+ghost use Rattle.std.specs.Prelude.{◌≡◌, ◌↔◌, ◌⊎◌, ℕ, map, string_bytes, vec_len, None, Some};
 ghost use Rattle.mls_base.specs.Told.{Names, Rose};
-ghost use Rattle.mls_model.specs.Schedules.{plain};
-ghost use Rattle.mls_model.specs.ResultText.{result_text};
-ghost use Rattle.mls_replay.specs.Calm.{is_calm};
-ghost use Rattle.mls_replay.specs.Folding.{Folds};
-ghost use Rattle.mls_cli.specs.Words.{FoldNames, names_of};
-ghost use Rattle.mls_cli.specs.Ideal.{right_fold, ideal};
-ghost use Rattle.mls_cli.specs.Answers.{Answers, fold_status};
-ghost use Rattle.mls_cli.specs.Refusals.{Counts, IsBuilt, IsRefused};
+ghost use Rattle.mls_study.specs.declared.fault.StudyFault.{StudyFault};
+ghost use Rattle.mls_model.specs.declared.lanes.TapeWhy.{TapeWhy};
+ghost use Rattle.mls_result.specs.declared.status.FileRole.{FileRole};
+ghost use Rattle.mls_result.specs.declared.status.Part.{Part};
+ghost use Rattle.mls_cli.specs.Words.{words_of};
+ghost use Rattle.mls_cli.specs.Ideal.{right_command, ideal};
+ghost use Rattle.mls_cli.specs.Answers.{Answers, Exactly, IsQuiet, IsRight};
 
-use crate::steps::{Refusal, into_status, load_study, load_tape};
-use crate::words::{FoldWords, names_of};
+use crate::fold::run_fold;
+use crate::watch::run_watch;
+use crate::words::{Words, WordsFault, read_words};
 use mls_base::outside::{Files, Keeper, Sink};
-use mls_replay::fold;
-use mls_result::{FoldFault, Status};
-use mls_study::Study;
-use mls_tape::{Schedule, Tape};
+use mls_result::{Part, Status};
 use std::alloc::Global;
 
-/// What a fold begins with.
-#[derive(Drop)]
-struct Inputs {
-    study: Study,
-    tape: Tape,
-}
-
-/// The study and the tape of these names.
-fn load_inputs<F: Files>(
+/// Carries out a command.
+fn carry_out<F: Files, O: Sink, K: Keeper + Drop>(
     alloc: Global,
-    files: &mut F,
-    study_name: &str,
-    tape_name: &str,
-) -> Result<Inputs, Refusal>
-    ensures right { (held : Names) → F.held files.old ≡ Some held → MatchResult result
-        (λ inputs. right_fold held (record { study = study_name.now; tape = tape_name.now }) ≡ Ok (result_text inputs.study inputs.tape.lanes (plain inputs.study.sizes.ranks inputs.tape.lanes)))
-        (λ r. IsRefused r (right_fold held (record { study = study_name.now; tape = tape_name.now }))) }
-    ensures built { IfOk result (λ inputs. IsBuilt inputs.study) }
-    ensures calm { IfOk result (λ inputs. is_calm inputs.tape.lanes ≡ true) }
-    ensures ranks { IfOk result (λ inputs. inputs.tape.ranks ≡ inputs.study.sizes.ranks) }
-    ensures loads { IfErr result (λ r. Counts r (F.load_faults files.old) (F.load_faults files.new)) }
-    ensures saves { F.save_faults files.new ≡ F.save_faults files.old }
-{
-    let study = load_study(alloc, files, study_name)?;
-    let tape = load_tape(alloc, files, &study, tape_name)?;
-    Ok(Inputs { study, tape })
-}
-
-/// Folds under the plain schedule.
-fn fold_plain<O: Sink, K: Keeper + Drop>(
-    alloc: Global,
-    study: &Study,
-    tape: &Tape,
-    out: &mut O,
-    keepers: Vec<K>,
-) -> (Result<(), FoldFault>, Vec<K>)
-    requires keepers { vec_len keepers ≡ 64 }
-    requires built { IsBuilt study.now }
-    requires calm { is_calm tape.now.lanes ≡ true }
-    requires ranks { tape.now.ranks ≡ study.now.sizes.ranks }
-    ensures text { Folds result.0 (result_text study.now tape.now.lanes (plain study.now.sizes.ranks tape.now.lanes)) (O.told out.old) (O.told out.new) (O.faults out.old) (O.faults out.new) }
-    ensures keepers { result.1 ≡ keepers }
-{
-    let schedule = match Schedule::plain(alloc, tape) {
-        Ok(schedule) => schedule,
-        Err(_) => return (Err(FoldFault::Memory), keepers),
-    };
-    fold(alloc, study, tape, &schedule, keepers, out)
-}
-
-/// What the command answers after a fold.
-fn fold_status(answer: Result<(), FoldFault>) -> Status
-    ensures { result ≡ fold_status answer }
-{
-    match answer {
-        Ok(()) => Status::Done,
-        Err(FoldFault::WriteFault) => Status::WriteFault,
-        Err(FoldFault::Memory) => Status::Memory,
-    }
-}
-
-/// Folds the study and the tape of these names.
-fn run_fold<F: Files, O: Sink, K: Keeper + Drop>(
-    alloc: Global,
-    study_name: &str,
-    tape_name: &str,
+    command: Words,
     files: &mut F,
     out: &mut O,
     keepers: Vec<K>,
 ) -> (Status, Vec<K>)
     requires { vec_len keepers ≡ 64 }
-    ensures right { (held : Names) → F.held files.old ≡ Some held → Answers (right_fold held (record { study = study_name.now; tape = tape_name.now })) (O.told out.old) (O.told out.new) result.0 }
+    ensures right { (held : Names) → F.held files.old ≡ Some held → Answers (right_command held command) (O.told out.old) (O.told out.new) result.0 }
     ensures no_usage { result.0 ≡ Status.Usage → ⊥ }
     ensures read_fault { result.0 ≡ Status.ReadFault → Rose (F.load_faults files.old) (F.load_faults files.new) }
     ensures write_fault { result.0 ≡ Status.WriteFault → Rose (O.faults out.old) (O.faults out.new) }
+    ensures quiet { IsQuiet result.0 → O.told out.new ≡ O.told out.old }
     ensures keepers { result.1 ≡ keepers }
     ensures saves { F.save_faults files.new ≡ F.save_faults files.old }
 {
-    match load_inputs(alloc, files, study_name, tape_name) {
-        Ok(inputs) => {
-            let (answer, keepers) = fold_plain(alloc, &inputs.study, &inputs.tape, out, keepers);
-            return (fold_status(answer), keepers);
+    match command {
+        Words::Fold {
+            study,
+            tape,
+            schedule: None,
+        } => return run_fold(alloc, study.as_str(), tape.as_str(), files, out, keepers),
+        Words::Fold {
+            schedule: Some(_),
+            ..
+        } => {
+            let part = Part::Schedule;
+            return (Status::NotBuilt { part }, keepers);
         }
-        Err(refusal) => return (into_status(refusal), keepers),
+        Words::Watch { study, events } => {
+            let status = run_watch(alloc, study.as_str(), events.as_str(), files, out);
+            return (status, keepers);
+        }
+        Words::Design { .. }
+        | Words::Trial { .. }
+        | Words::Bins { .. }
+        | Words::Export { .. }
+        | Words::Resume { .. } => {
+            let part = Part::Command;
+            return (Status::NotBuilt { part }, keepers);
+        }
+    }
+}
+
+/// Carries out the command that the words say.
+fn run<F: Files, O: Sink, K: Keeper + Drop>(
+    alloc: Global,
+    words: &[String],
+    files: &mut F,
+    out: &mut O,
+    keepers: Vec<K>,
+) -> (Status, Vec<K>)
+    requires { vec_len keepers ≡ 64 }
+    ensures right { (held : Names) → F.held files.old ≡ Some held → Answers (ideal held (map string_bytes words.now)) (O.told out.old) (O.told out.new) result.0 }
+    ensures usage { (result.0 ≡ Status.Usage) ↔ (words_of (map string_bytes words.now) ≡ None) }
+    ensures read_fault { result.0 ≡ Status.ReadFault → Rose (F.load_faults files.old) (F.load_faults files.new) }
+    ensures write_fault { result.0 ≡ Status.WriteFault → Rose (O.faults out.old) (O.faults out.new) }
+    ensures quiet { IsQuiet result.0 → O.told out.new ≡ O.told out.old }
+    ensures keepers { result.1 ≡ keepers }
+    ensures saves { F.save_faults files.new ≡ F.save_faults files.old }
+{
+    match read_words(alloc, words) {
+        Ok(command) => return carry_out(alloc, command, files, out, keepers),
+        Err(WordsFault::Usage) => return (Status::Usage, keepers),
+        Err(WordsFault::Memory) => return (Status::Memory, keepers),
     }
 }
 
 /// The program `melissa` without its outside: carries out the command that the words say (those after the program's name)
 /// over these files, this sink and these 64 keepers, and says how it went.
 ///
-/// Where the files tell what they hold, the sink has gained exactly the text that the study's and the tape's bytes ask for
+/// Where the files tell what they hold, the sink has gained exactly the text that the words and the named files' bytes ask for
 /// where the answer is `Done`, a front of it after `WriteFault`, and nothing after every other answer. The keepers come back
 /// as they were.
 pub fn melissa<F: Files, O: Sink, K: Keeper + Drop>(
@@ -126,18 +105,28 @@ pub fn melissa<F: Files, O: Sink, K: Keeper + Drop>(
     ensures right { (held : Names) → F.held files.old ≡ Some held → Answers (ideal held (map string_bytes words.now)) (O.told out.old) (O.told out.new) result.0 }
 
     // Where the words are no command, told files or not.
-    ensures usage { (result.0 ≡ Status.Usage) ↔ (names_of (map string_bytes words.now) ≡ Err Status.Usage) }
+    ensures usage { (result.0 ≡ Status.Usage) ↔ (words_of (map string_bytes words.now) ≡ None) }
+
+    // Each refusal comes exactly where it is the first, but that memory may be wanting or a read may fail before.
+    ensures study { (held : Names) → F.held files.old ≡ Some held → (fault : StudyFault) → Exactly (ideal held (map string_bytes words.now)) (Status.Study fault) result.0 }
+    ensures tape { (held : Names) → F.held files.old ≡ Some held → (at : ℕ) (why : TapeWhy) → Exactly (ideal held (map string_bytes words.now)) (Status.Tape at why) result.0 }
+    ensures events { (held : Names) → F.held files.old ≡ Some held → (line : ℕ) → Exactly (ideal held (map string_bytes words.now)) (Status.Events line) result.0 }
+    ensures too_long { (held : Names) → F.held files.old ≡ Some held → (file : FileRole) → Exactly (ideal held (map string_bytes words.now)) (Status.TooLong file) result.0 }
+    ensures not_built { (held : Names) → F.held files.old ≡ Some held → (part : Part) → Exactly (ideal held (map string_bytes words.now)) (Status.NotBuilt part) result.0 }
 
     // The causes of faults of the outside.
     ensures read_fault { result.0 ≡ Status.ReadFault → Rose (F.load_faults files.old) (F.load_faults files.new) }
     ensures write_fault { result.0 ≡ Status.WriteFault → Rose (O.faults out.old) (O.faults out.new) }
 
-    // No keeper is called, and no file is saved.
+    // After every answer but `Done` and `WriteFault` a told sink is as it was, told files or not.
+    ensures quiet { IsQuiet result.0 → O.told out.new ≡ O.told out.old }
+
+    // Where there is a text and no count rose, it is written or memory is wanting.
+    ensures complete { (held : Names) → F.held files.old ≡ Some held → IsRight (ideal held (map string_bytes words.now)) → (Rose (F.load_faults files.old) (F.load_faults files.new) → ⊥) → (Rose (O.faults out.old) (O.faults out.new) → ⊥) → (result.0 ≡ Status.Done) ⊎ (result.0 ≡ Status.Memory) }
+
+    // Each keeper comes back as it was, and the count of failed saves stands.
     ensures keepers { result.1 ≡ keepers }
     ensures saves { F.save_faults files.new ≡ F.save_faults files.old }
 {
-    match names_of(words) {
-        Ok(names) => return run_fold(alloc, names.study, names.tape, files, out, keepers),
-        Err(status) => return (status, keepers),
-    }
+    run(alloc, words, files, out, keepers)
 }

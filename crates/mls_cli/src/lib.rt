@@ -1,10 +1,15 @@
-//! The commands of the program `melissa` over files, a sink and keepers.
+//! The commands of the program `melissa` over files, a sink and keepers, and the program itself.
 #![tactic(auto)]
 
 mod commands;
+mod fold;
+mod program;
 mod steps;
 #[cfg(test)]
 mod tests;
+mod watch;
 mod words;
 
 pub use commands::melissa;
+pub use program::run_program;
+pub use words::{NamePair, Words, WordsFault, read_words};

@@ -1,16 +1,17 @@
-//! The steps of a fold up to its inputs.
+//! The steps of a command up to its inputs.
 
-ghost use Rattle.std.specs.Prelude.{◌≡◌, ◌≤◌, ◌||◌, true, Some, Ok, Err, IfOk, IfErr, OnOk, MatchOption, MatchResult, vec_len, ⊤};
+ghost use Rattle.std.specs.Prelude.{◌≡◌, ◌≤◌, ◌||◌, length, true, Some, Ok, Err, IfOk, IfErr, OnOk, MatchOption, MatchResult, vec_len, ⊤};
 ghost use Rattle.mls_base.specs.Told.{Names};
 ghost use Rattle.mls_model.specs.declared.studies.Statistic.TheVariants.{Extrema, Exceed, Sobol};
 ghost use Rattle.mls_model.specs.Studies.{shows};
 ghost use Rattle.mls_result.specs.declared.status.Status.TheVariants as status;
 ghost use Rattle.mls_replay.specs.Calm.{is_calm};
-ghost use Rattle.mls_cli.specs.Ideal.{limited, right_study, right_lanes, built_study, built_tape, content_study, content_lanes};
+ghost use Rattle.mls_cli.specs.Ideal.{limited, right_study, right_fold_study, right_lanes, right_events, built_study, built_tape, content_study, content_lanes, content_events};
 ghost use Rattle.mls_cli.specs.Refusals.{status_of, study_refusal, Agrees, Counts, IsOfContent, IsBuilt};
 
 use mls_base::faults::LoadFault;
 use mls_base::outside::Files;
+use mls_launch::{Event, EventFault, read_events};
 use mls_replay::is_calm;
 use mls_result::{FileRole, Part, Status};
 use mls_study::{Statistic, Study, StudyFault, read_study};
@@ -23,7 +24,10 @@ const STUDY_LIMIT: u64 = 65536;
 /// The most bytes of a tape.
 const TAPE_LIMIT: u64 = 1073741824;
 
-/// Why a fold has no inputs.
+/// The most bytes of an events file.
+const EVENTS_LIMIT: u64 = 16777216;
+
+/// Why a command has no inputs.
 #[derive(Debug, Drop)]
 pub(crate) enum Refusal {
     /// A file could not be read.
@@ -34,6 +38,8 @@ pub(crate) enum Refusal {
     Study(StudyFault),
     /// The tape's bytes are refused at a place.
     Tape { at: u64, why: TapeWhy },
+    /// The events file is refused at a line.
+    Events { line: u32 },
     /// The study or the tape asks for what is not built yet.
     NotBuilt { part: Part },
     /// A file has more bytes than it may have.
@@ -49,6 +55,7 @@ pub(crate) fn into_status(refusal: Refusal) -> Status
         Refusal::Memory => Status::Memory,
         Refusal::Study(fault) => Status::Study(fault),
         Refusal::Tape { at, why } => Status::Tape { at, why },
+        Refusal::Events { line } => Status::Events { line },
         Refusal::NotBuilt { part } => Status::NotBuilt { part },
         Refusal::TooLong { file } => Status::TooLong { file },
     }
@@ -117,7 +124,7 @@ fn study_refusal(fault: StudyFault) -> Refusal
     }
 }
 
-/// The study, if all that it asks for is built.
+/// The study, if all that it asks of a fold is built.
 fn if_built(study: Study) -> Result<Study, Refusal>
     ensures right { Agrees (λ s. s) result (built_study study) }
     ensures built { IfOk result IsBuilt }
@@ -132,11 +139,10 @@ fn if_built(study: Study) -> Result<Study, Refusal>
 /// The study in these bytes.
 fn study_in(alloc: Global, bytes: &[u8]) -> Result<Study, Refusal>
     ensures right { Agrees (λ s. s) result (content_study bytes.now) }
-    ensures built { IfOk result IsBuilt }
     ensures content { IfErr result IsOfContent }
 {
     match read_study(alloc, bytes) {
-        Ok(study) => return if_built(study),
+        Ok(study) => return Ok(study),
         Err(fault) => return Err(study_refusal(fault)),
     }
 }
@@ -148,13 +154,28 @@ pub(crate) fn load_study<F: Files>(
     name: &str,
 ) -> Result<Study, Refusal>
     ensures right { (held : Names) → F.held files.old ≡ Some held → Agrees (λ s. s) result (right_study held name.now) }
-    ensures built { IfOk result IsBuilt }
     ensures held { OnOk result (F.held files.new ≡ F.held files.old) }
     ensures loads { MatchResult result (λ _. F.load_faults files.new ≡ F.load_faults files.old) (λ r. Counts r (F.load_faults files.old) (F.load_faults files.new)) }
     ensures saves { F.save_faults files.new ≡ F.save_faults files.old }
 {
     let bytes = load(alloc, files, name, STUDY_LIMIT, FileRole::Study)?;
     study_in(alloc, bytes.as_slice())
+}
+
+/// The study of a name, if all that it asks of a fold is built.
+pub(crate) fn load_fold_study<F: Files>(
+    alloc: Global,
+    files: &mut F,
+    name: &str,
+) -> Result<Study, Refusal>
+    ensures right { (held : Names) → F.held files.old ≡ Some held → Agrees (λ s. s) result (right_fold_study held name.now) }
+    ensures built { IfOk result IsBuilt }
+    ensures held { OnOk result (F.held files.new ≡ F.held files.old) }
+    ensures loads { MatchResult result (λ _. F.load_faults files.new ≡ F.load_faults files.old) (λ r. Counts r (F.load_faults files.old) (F.load_faults files.new)) }
+    ensures saves { F.save_faults files.new ≡ F.save_faults files.old }
+{
+    let study = load_study(alloc, files, name)?;
+    if_built(study)
 }
 
 /// The tape, if all that it asks for is built.
@@ -204,4 +225,31 @@ pub(crate) fn load_tape<F: Files>(
 {
     let bytes = load(alloc, files, name, TAPE_LIMIT, FileRole::Tape)?;
     tape_in(alloc, study, bytes)
+}
+
+/// The events in these bytes.
+fn events_in(alloc: Global, bytes: &[u8]) -> Result<Vec<Event>, Refusal>
+    requires { length bytes.now ≤ 16777216 }
+    ensures right { Agrees (λ e. e.items) result (content_events bytes.now) }
+    ensures content { IfErr result IsOfContent }
+{
+    match read_events(alloc, bytes) {
+        Ok(events) => return Ok(events),
+        Err(EventFault::Line { line }) => return Err(Refusal::Events { line }),
+        Err(EventFault::Memory) => return Err(Refusal::Memory),
+    }
+}
+
+/// The events of a name.
+pub(crate) fn load_events<F: Files>(
+    alloc: Global,
+    files: &mut F,
+    name: &str,
+) -> Result<Vec<Event>, Refusal>
+    ensures right { (held : Names) → F.held files.old ≡ Some held → Agrees (λ e. e.items) result (right_events held name.now) }
+    ensures loads { MatchResult result (λ _. F.load_faults files.new ≡ F.load_faults files.old) (λ r. Counts r (F.load_faults files.old) (F.load_faults files.new)) }
+    ensures saves { F.save_faults files.new ≡ F.save_faults files.old }
+{
+    let bytes = load(alloc, files, name, EVENTS_LIMIT, FileRole::Events)?;
+    events_in(alloc, bytes.as_slice())
 }

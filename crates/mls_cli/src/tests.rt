@@ -1,7 +1,12 @@
-//! The command `fold` over files, a sink and keepers in memory.
+//! The commands over files, a sink and keepers in memory.
 
-use crate::melissa;
-use mls_base::memory::{AbsentKeeper, MemFiles, MemSink};
+use crate::program::absent_keepers;
+use crate::{Words, WordsFault, melissa, read_words};
+use mls_base::memory::{MemFiles, MemSink};
+use mls_model::studies::{Key, Product};
+use mls_result::{FileRole, Part, Status};
+use mls_study::StudyFault;
+use mls_tape::{SchedWhy, TapeWhy};
 use std::alloc::{AllocError, Global};
 
 // One cell, one step, two groups, one parameter.
@@ -105,34 +110,43 @@ fn empty_text(alloc: Global, foreign: &str, lane: &str) -> Result<String, AllocE
     )
 }
 
-/// The status of a fold of these bytes and what a sink of so much room holds then.
+/// What a command answers over these files, of whose calls these fail, and what a sink of so much room holds then.
+fn answer_of(
+    alloc: Global,
+    words: &[&str],
+    named: &[(&str, &[u8])],
+    fails: Vec<u64>,
+    room: u64,
+) -> Result<(Status, Vec<u8>), AllocError> {
+    let mut files = MemFiles::new(alloc, fails);
+    let Ok(mut sink) = MemSink::new(alloc, room, Vec::new(alloc)) else {
+        return Err(AllocError);
+    };
+    for (name, bytes) in named {
+        if files.set(name, bytes).is_err() {
+            return Err(AllocError);
+        }
+    }
+    let mut command = Vec::new(alloc);
+    for word in words {
+        command.push(String::from_str(alloc, word)?)?;
+    }
+    let keepers = absent_keepers(alloc)?;
+    let (status, _) = melissa(alloc, command.as_slice(), &mut files, &mut sink, keepers);
+    Ok((status, Vec::from_slice(alloc, sink.bytes())?))
+}
+
+/// The number of a fold's status over these bytes and what a sink of so much room holds then.
 fn fold_of(
     alloc: Global,
     study: &[u8],
     tape: &[u8],
     room: u64,
 ) -> Result<(u8, Vec<u8>), AllocError> {
-    let mut files = MemFiles::new(alloc, Vec::new(alloc));
-    let Ok(mut sink) = MemSink::new(alloc, room, Vec::new(alloc)) else {
-        return Err(AllocError);
-    };
-    if files.set("study", study).is_err() || files.set("tape", tape).is_err() {
-        return Err(AllocError);
-    }
-    let words = vec![in alloc;
-        format!(in alloc; "fold")?,
-        format!(in alloc; "study")?,
-        format!(in alloc; "tape")?,
-    ]?;
-    let mut keepers = Vec::new(alloc);
-    for _ in 0..64_u32 {
-        keepers.push(AbsentKeeper::new())?;
-    }
-    if keepers.len() != 64 {
-        return Err(AllocError);
-    }
-    let (status, _) = melissa(alloc, words.as_slice(), &mut files, &mut sink, keepers);
-    Ok((status.number(), Vec::from_slice(alloc, sink.bytes())?))
+    let named = [("study", study), ("tape", tape)];
+    let words = ["fold", "study", "tape"];
+    let (status, bytes) = answer_of(alloc, &words, &named, Vec::new(alloc), room)?;
+    Ok((status.number(), bytes))
 }
 
 const TWO_GROUPS_TEXT: &[u8] =
@@ -312,5 +326,226 @@ fn largest_and_least_samples(rt: HostRuntime) {
         let tape = most_groups(alloc, head, sample).expect(&rt, "memory");
         let (number, bytes) = fold_of(alloc, study, tape.as_slice(), 1000).expect(&rt, "memory");
         assert!(rt; number == 0 && bytes.as_slice() == text);
+    }
+}
+
+#[test]
+fn every_small_sink_is_full(rt: HostRuntime) {
+    let alloc = rt.alloc();
+    let lane = joined(alloc, &[FIRST, SECOND]).expect(&rt, "memory");
+    let tape = tape_of(alloc, HEAD, lane.as_slice()).expect(&rt, "memory");
+    for room in 0..=TWO_GROUPS_TEXT.len() {
+        let (number, bytes) = fold_of(alloc, STUDY, tape.as_slice(), room as u64).expect(
+            &rt, "memory",
+        );
+        let answer = if room < TWO_GROUPS_TEXT.len() { 6 } else { 0 };
+        let front = TWO_GROUPS_TEXT.get(..room).unwrap_or(&[]);
+        assert!(rt; number == answer && bytes.as_slice() == front, "{room}");
+    }
+}
+
+#[test]
+fn files_fail_and_are_too_long(rt: HostRuntime) {
+    let alloc = rt.alloc();
+    let lane = joined(alloc, &[FIRST, SECOND]).expect(&rt, "memory");
+    let tape = tape_of(alloc, HEAD, lane.as_slice()).expect(&rt, "memory");
+    let words = ["fold", "study", "tape"];
+    let named = [("study", STUDY), ("tape", tape.as_slice())];
+    for call in 0..2_u64 {
+        let fails = vec![in alloc; call].expect(&rt, "memory");
+        let (status, bytes) = answer_of(alloc, &words, &named, fails, 1000).expect(&rt, "memory");
+        assert!(rt; status.number() == 5 && bytes.is_empty(), "{call}");
+    }
+    let mut long = Vec::new(alloc);
+    for _ in 0..65_537_u32 {
+        long.push(b'\n').expect(&rt, "memory");
+    }
+    let cases = [
+        ([("study", long.as_slice()), ("tape", tape.as_slice())], 12),
+        (
+            [
+                ("study", long.get(1..).unwrap_or(&[])),
+                ("tape", tape.as_slice()),
+            ],
+            2,
+        ),
+        ([("other", STUDY), ("tape", tape.as_slice())], 5),
+    ];
+    for (named, number) in cases {
+        let (status, bytes) = answer_of(alloc, &words, &named, Vec::new(alloc), 1000).expect(
+            &rt, "memory",
+        );
+        assert!(rt; status.number() == number && bytes.is_empty(), "{number}");
+    }
+}
+
+#[test]
+fn words_are_commands(rt: HostRuntime) {
+    let alloc = rt.alloc();
+    let cases = [
+        ([].as_slice(), 1),
+        (&["fold"], 1),
+        (&["fold", "-x", "t"], 1),
+        (&["fold", "", "t"], 1),
+        (&["fold", "s", "t", "u", "v"], 1),
+        (&["--help"], 1),
+        (&["folds", "s", "t"], 1),
+        (&["fold", "s", "t", "u"], 10),
+        (&["fold", "s", "t"], 5),
+        (&["design", "s"], 10),
+        (&["design", "s", "t"], 1),
+        (&["trial", "s", "07"], 1),
+        (&["trial", "s", "1", "t"], 1),
+        (&["trial", "s", "18446744073709551616"], 1),
+        (&["trial", "s", "18446744073709551615"], 10),
+        (&["trial", "s", "1", "t", "u"], 10),
+        (&["watch", "s"], 1),
+        (&["watch", "s", "e"], 5),
+        (&["bins", "s", "t"], 10),
+        (&["bins", "s", "t", "u"], 10),
+        (&["export", "s", "p"], 10),
+        (&["export", "s"], 1),
+        (&["resume", "s", "0", "p", "t"], 10),
+        (&["resume", "s", "4294967295", "p", "t", "u"], 10),
+        (&["resume", "s", "4294967296", "p", "t"], 1),
+    ];
+    for (words, number) in cases {
+        let (status, bytes) = answer_of(alloc, words, &[], Vec::new(alloc), 1000).expect(
+            &rt, "memory",
+        );
+        assert!(rt; status.number() == number && bytes.is_empty());
+    }
+}
+
+#[test]
+fn words_are_read_in_their_places(rt: HostRuntime) {
+    let alloc = rt.alloc();
+    let mut words = Vec::new(alloc);
+    for word in ["resume", "s", "3", "p", "t"] {
+        let word = String::from_str(alloc, word).expect(&rt, "memory");
+        words.push(word).expect(&rt, "memory");
+    }
+    match read_words(alloc, words.as_slice()) {
+        Ok(
+            Words::Resume {
+                study,
+                old,
+                prefix,
+                tape,
+                schedule,
+            },
+        ) => {
+            assert!(rt; study.as_str() == "s" && old == 3 && schedule.is_none());
+            assert!(rt; prefix.as_str() == "p" && tape.as_str() == "t");
+        }
+        _ => assert!(rt; false, "another command"),
+    }
+    let fault = read_words(alloc, words.get(1..).unwrap_or(&[])).err();
+    assert!(rt; fault == Some(WordsFault::Usage));
+}
+
+const THREE_GROUPS: &[u8] =
+    b"cells = 1\nsteps = 1\ngroups = 3\nslots = 2\nsilence = 10\nlives = 2\n[[parameters]]\nname = \"x\"\nlow = 0\nhigh = 9\n";
+
+const THREE_GROUPS_EVENTS: &[u8] = b"tick 0\nbeat 0 1 8\ntick 11\ndone 0 1 12\ntick 13\ntick 24\n";
+
+const THREE_GROUPS_TEXT: &[u8] =
+    b"melissa-watch 1\n0 start 0 1\n0 start 1 1\n11 restart-rank 0\n11 restart 1 2\n13 start 2 1\n24 restart-rank 0\n24 giveup 1\n24 restart 2 2\nend running 1 waiting 0 finished 1 givenup 1\n";
+
+#[test]
+fn events_are_watched(rt: HostRuntime) {
+    let alloc = rt.alloc();
+    let cases = [
+        (THREE_GROUPS_EVENTS, 1000, 0, THREE_GROUPS_TEXT),
+        (
+            THREE_GROUPS_EVENTS,
+            20,
+            6,
+            b"melissa-watch 1\n0 st".as_slice(),
+        ),
+        (b"tick 01\n", 1000, 13, b""),
+        (b"tick 1", 1000, 13, b""),
+    ];
+    let words = ["watch", "study", "events"];
+    for (events, room, number, text) in cases {
+        let named = [("study", THREE_GROUPS), ("events", events)];
+        let (status, bytes) = answer_of(alloc, &words, &named, Vec::new(alloc), room).expect(
+            &rt, "memory",
+        );
+        assert!(rt;
+            status.number() == number && bytes.as_slice() == text,
+            "{number}"
+        );
+    }
+}
+
+#[test]
+fn statuses_have_texts(rt: HostRuntime) {
+    let alloc = rt.alloc();
+    let cases = [
+        (
+            Status::Usage,
+            "usage: melissa fold STUDY TAPE [SCHEDULE] | design STUDY | trial STUDY NUMBER [TAPE SCHEDULE] | watch STUDY EVENTS | bins STUDY TAPE [SCHEDULE] | export STUDY PREFIX | resume STUDY OLD PREFIX TAPE [SCHEDULE]",
+        ),
+        (Status::Study(StudyFault::NotToml), "study: not TOML"),
+        (
+            Status::Study(StudyFault::Missing { key: Key::Cells }),
+            "study: missing cells",
+        ),
+        (
+            Status::Study(StudyFault::Kind {
+                key: Key::ParamLow { place: 2 },
+            }),
+            "study: wrong kind parameters.2.low",
+        ),
+        (
+            Status::Study(StudyFault::Range { key: Key::Steps }),
+            "study: out of range steps",
+        ),
+        (
+            Status::Study(StudyFault::Duplicate { place: 1 }),
+            "study: duplicate name at 1",
+        ),
+        (
+            Status::Study(StudyFault::Product {
+                which: Product::CellsSteps,
+            }),
+            "study: too large cells*steps",
+        ),
+        (
+            Status::Study(StudyFault::Product {
+                which: Product::GroupsStepsRanks,
+            }),
+            "study: too large groups*steps*ranks",
+        ),
+        (
+            Status::Tape {
+                at: 13,
+                why: TapeWhy::LaneKind,
+            },
+            "tape: lane-kind at 13",
+        ),
+        (
+            Status::Schedule {
+                line: 3,
+                why: SchedWhy::Count,
+            },
+            "schedule: count in line 3",
+        ),
+        (Status::ReadFault, "cannot read"),
+        (Status::WriteFault, "cannot write"),
+        (Status::Memory, "out of memory"),
+        (Status::NotBuilt { part: Part::Ranks }, "not built yet"),
+        (
+            Status::TooLong {
+                file: FileRole::Events,
+            },
+            "file too long: events",
+        ),
+        (Status::Events { line: 7 }, "events: line 7"),
+    ];
+    for (status, text) in cases {
+        let printed = format!(in alloc; "{status}").expect(&rt, "memory");
+        assert!(rt; printed.as_str() == text, "{text}");
     }
 }

@@ -1,15 +1,14 @@
 //! The events file, a line for each event.
 
-ghost use Rattle.std.specs.Prelude.{◌≡◌, ◌≤◌, ◌^◌, ℕ, List, [], ◌∷◌, length, Ok, IfOk, IfErr, MatchResult, false};
+ghost use Rattle.std.specs.Prelude.{◌≡◌, ◌≤◌, ℕ, List, [], ◌∷◌, length, Ok, IfOk, IfErr, MatchResult, false};
 ghost use Rattle.std.specs.List.{prefix_len};
 ghost use Rattle.std.specs.Char.{is_ascii_digit};
 ghost use Rattle.mls_launch.specs.EventsText.{events_text};
-ghost use Rattle.mls_text.specs.Decimals.{number_below};
 ghost use Rattle.mls_launch.specs.EventFaults.{IsRefused, IsExact};
 ghost use Rattle.mls_launch.specs.EventReading.{seen, seen_rest, after_in, number_in, number_before, tick_in, rank_in, life_in, event_in, events_of};
 
 use mls_model::launcher::Event;
-use mls_text::canonical_number;
+use mls_text::small_canonical_number;
 use std::alloc::{AllocFailed, Global};
 
 /// Why bytes are no events file.
@@ -46,26 +45,13 @@ fn digit_count(bytes: &[u8]) -> usize
     bytes.len()
 }
 
-/// The number below 2^32 that digits spell.
-fn number_of(digits: &[u8]) -> Option<u32>
-    ensures { result ≡ number_below (2 ^ 32) digits.now }
-{
-    match canonical_number(digits) {
-        Some(number) => match u32::try_from(number) {
-            Ok(number) => return Some(number),
-            Err(_) => return None,
-        },
-        None => return None,
-    }
-}
-
 /// The number that the digits at the front spell, and the bytes behind it.
 #[tactic(auto, unfolding(crate::specs::EventReading::number_in))]
 fn number_in(bytes: &[u8]) -> Option<(u32, &[u8])>
     ensures { seen result ≡ number_in bytes.now }
 {
     let (digits, rest) = bytes.split_at(digit_count(bytes));
-    match number_of(digits) {
+    match small_canonical_number(digits) {
         Some(number) => Some((number, rest)),
         None => None,
     }

@@ -14,3 +14,4 @@ number_of status.WriteFault = 6
 number_of status.Memory = 9
 number_of (status.NotBuilt part) = 10
 number_of (status.TooLong file) = 12
+number_of (status.Events line) = 13

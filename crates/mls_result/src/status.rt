@@ -65,6 +65,9 @@ pub enum Status {
     /// A file has more bytes than it may have.
     #[error("file too long: {}", RoleText(*.file))]
     TooLong { file: FileRole },
+    /// The events file is refused at a line, counted from 1.
+    #[error("events: line {line}")]
+    Events { line: u32 },
 }
 
 impl Status {
@@ -86,6 +89,7 @@ impl Status {
             Status::Memory => 9,
             Status::NotBuilt { .. } => 10,
             Status::TooLong { .. } => 12,
+            Status::Events { .. } => 13,
         }
     }
 }

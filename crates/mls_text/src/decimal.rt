@@ -24,3 +24,16 @@ pub fn canonical_number(digits: &[u8]) -> Option<u64>
     }
     None
 }
+
+/// The number below 2^32 whose canonical decimal these bytes are.
+pub fn small_canonical_number(digits: &[u8]) -> Option<u32>
+    ensures { result ≡ number_below (2 ^ 32) digits.now }
+{
+    match canonical_number(digits) {
+        Some(number) => match u32::try_from(number) {
+            Ok(number) => return Some(number),
+            Err(_) => return None,
+        },
+        None => return None,
+    }
+}

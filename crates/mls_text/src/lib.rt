@@ -11,7 +11,7 @@ ghost use Rattle.mls_text.specs.Writing.{Writes, GathersOn};
 mod decimal;
 
 use arrayvec::ArrayVec;
-pub use decimal::canonical_number;
+pub use decimal::{canonical_number, small_canonical_number};
 use mls_base::faults::Failed;
 use mls_base::outside::Sink;
 use mls_base::put::put_all;

@@ -20,4 +20,6 @@ fn canonical_decimals_are_read(rt: HostRuntime) {
     for (text, number) in cases {
         assert!(rt; canonical_number(text) == number);
     }
+    assert!(rt; small_canonical_number(b"4294967295") == Some(u32::MAX));
+    assert!(rt; small_canonical_number(b"4294967296").is_none());
 }

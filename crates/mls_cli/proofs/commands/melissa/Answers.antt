@@ -1,10 +1,24 @@
--- What the top call answers is right.
+-- What the answer says of what is right.
 use Rattle.std.proofs.Common.{map, string_bytes}
+use Rattle.mls_result.specs.declared.status.Status.TheVariants as status
 use Rattle.mls_cli.proofs.commands.melissa.Goals as goal
-use Rattle.mls_cli.proofs.Agreeing.{answers_words, answers_fold}
+use Rattle.mls_cli.proofs.Exactness.{exact, completed}
 
-pub returns-in-Ok-clause-right : goal.returns-in-Ok-clause-right
-returns-in-Ok-clause-right g c held told = answers_fold held (map string_bytes c.args.words.now) _ _ _ _ c.in-Ok.ensures (c.run_fold.ensures.right held told)
+pub returns-clause-study : goal.returns-clause-study
+returns-clause-study g c held told fault = exact _ _ _ _ (status.Study fault) tt (c.run.ensures.right held told)
 
-pub returns-in-Err-clause-right : goal.returns-in-Err-clause-right
-returns-in-Err-clause-right g c held told = answers_words held (map string_bytes c.args.words.now) _ c.in-Err.status c.in-Err.ensures
+pub returns-clause-tape : goal.returns-clause-tape
+returns-clause-tape g c held told at why = exact _ _ _ _ (status.Tape at why) tt (c.run.ensures.right held told)
+
+pub returns-clause-events : goal.returns-clause-events
+returns-clause-events g c held told line = exact _ _ _ _ (status.Events line) tt (c.run.ensures.right held told)
+
+pub returns-clause-too_long : goal.returns-clause-too_long
+returns-clause-too_long g c held told file = exact _ _ _ _ (status.TooLong file) tt (c.run.ensures.right held told)
+
+pub returns-clause-not_built : goal.returns-clause-not_built
+returns-clause-not_built g c held told part = exact _ _ _ _ (status.NotBuilt part) tt (c.run.ensures.right held told)
+
+pub returns-clause-complete : goal.returns-clause-complete
+returns-clause-complete g c held told right no_load no_write =
+    completed _ _ _ _ right (λ e. no_load (c.run.ensures.read_fault e)) (λ e. no_write (c.run.ensures.write_fault e)) (c.run.ensures.right held told)

@@ -1,7 +1,7 @@
 -- What a fold answers is right.
 use Rattle.mls_model.specs.Schedules.{plain}
 use Rattle.mls_model.specs.ResultText.{result_text}
-use Rattle.mls_cli.proofs.commands.run_fold.Goals as goal
+use Rattle.mls_cli.proofs.fold.run_fold.Goals as goal
 use Rattle.mls_cli.proofs.Agreeing.{folded}
 
 pub returns-in-Ok-clause-right : goal.returns-in-Ok-clause-right

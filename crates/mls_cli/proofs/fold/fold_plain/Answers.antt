@@ -1,6 +1,6 @@
 -- The plain schedule is legal.
 use Rattle.std.proofs.Common.{sym}
-use Rattle.mls_cli.proofs.commands.fold_plain.Goals as goal
+use Rattle.mls_cli.proofs.fold.fold_plain.Goals as goal
 use Rattle.mls_tape.proofs.Complete.{plain_legal}
 
 pub fold-requires-clause-legal : goal.fold-requires-clause-legal

@@ -1,7 +1,7 @@
 use Rattle.std.proofs.Common.{◌<◌, ◌^◌, sym, ap, ◌∙◌, Some, inl, inr, arith}
 use Rattle.std.proofs.lemmas.Bool.{cases_lt}
 use Rattle.mls_text.proofs.Decimals.{number_within, number_beyond, number_of_none}
-use Rattle.mls_launch.proofs.reading.number_of.Goals as goal
+use Rattle.mls_text.proofs.decimal.small_canonical_number.Goals as goal
 
 pub returns-in-Ok : goal.returns-in-Ok
 returns-in-Ok c =

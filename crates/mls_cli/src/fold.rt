@@ -1,0 +1,107 @@
+//! The command `fold`.
+
+ghost use Rattle.std.specs.Prelude.{◌≡◌, true, vec_len, Some, Ok, IfOk, IfErr, MatchResult};
+ghost use Rattle.mls_base.specs.Told.{Names, Rose};
+ghost use Rattle.mls_model.specs.Schedules.{plain};
+ghost use Rattle.mls_model.specs.ResultText.{result_text};
+ghost use Rattle.mls_replay.specs.Calm.{is_calm};
+ghost use Rattle.mls_replay.specs.Folding.{Folds};
+ghost use Rattle.mls_cli.specs.Ideal.{right_fold};
+ghost use Rattle.mls_cli.specs.Answers.{Answers, IsQuiet, fold_status};
+ghost use Rattle.mls_cli.specs.Refusals.{Counts, IsBuilt, IsRefused};
+
+use crate::steps::{Refusal, into_status, load_fold_study, load_tape};
+use mls_base::outside::{Files, Keeper, Sink};
+use mls_replay::fold;
+use mls_result::{FoldFault, Status};
+use mls_study::Study;
+use mls_tape::{Schedule, Tape};
+use std::alloc::Global;
+
+/// What a fold begins with.
+#[derive(Drop)]
+struct FoldInputs {
+    study: Study,
+    tape: Tape,
+}
+
+/// The study and the tape of these names.
+fn load_inputs<F: Files>(
+    alloc: Global,
+    files: &mut F,
+    study_name: &str,
+    tape_name: &str,
+) -> Result<FoldInputs, Refusal>
+    ensures right { (held : Names) → F.held files.old ≡ Some held → MatchResult result
+        (λ inputs. right_fold held study_name.now tape_name.now ≡ Ok (result_text inputs.study inputs.tape.lanes (plain inputs.study.sizes.ranks inputs.tape.lanes)))
+        (λ r. IsRefused r (right_fold held study_name.now tape_name.now)) }
+    ensures built { IfOk result (λ inputs. IsBuilt inputs.study) }
+    ensures calm { IfOk result (λ inputs. is_calm inputs.tape.lanes ≡ true) }
+    ensures ranks { IfOk result (λ inputs. inputs.tape.ranks ≡ inputs.study.sizes.ranks) }
+    ensures loads { IfErr result (λ r. Counts r (F.load_faults files.old) (F.load_faults files.new)) }
+    ensures saves { F.save_faults files.new ≡ F.save_faults files.old }
+{
+    let study = load_fold_study(alloc, files, study_name)?;
+    let tape = load_tape(alloc, files, &study, tape_name)?;
+    Ok(FoldInputs { study, tape })
+}
+
+/// Folds under the plain schedule.
+fn fold_plain<O: Sink, K: Keeper + Drop>(
+    alloc: Global,
+    study: &Study,
+    tape: &Tape,
+    out: &mut O,
+    keepers: Vec<K>,
+) -> (Result<(), FoldFault>, Vec<K>)
+    requires keepers { vec_len keepers ≡ 64 }
+    requires built { IsBuilt study.now }
+    requires calm { is_calm tape.now.lanes ≡ true }
+    requires ranks { tape.now.ranks ≡ study.now.sizes.ranks }
+    ensures text { Folds result.0 (result_text study.now tape.now.lanes (plain study.now.sizes.ranks tape.now.lanes)) (O.told out.old) (O.told out.new) (O.faults out.old) (O.faults out.new) }
+    ensures keepers { result.1 ≡ keepers }
+{
+    let schedule = match Schedule::plain(alloc, tape) {
+        Ok(schedule) => schedule,
+        Err(_) => return (Err(FoldFault::Memory), keepers),
+    };
+    fold(alloc, study, tape, &schedule, keepers, out)
+}
+
+/// What the command answers after a fold.
+fn fold_status(answer: Result<(), FoldFault>) -> Status
+    ensures { result ≡ fold_status answer }
+{
+    match answer {
+        Ok(()) => Status::Done,
+        Err(FoldFault::WriteFault) => Status::WriteFault,
+        Err(FoldFault::Memory) => Status::Memory,
+    }
+}
+
+/// Folds the study and the tape of these names.
+pub(crate) fn run_fold<F: Files, O: Sink, K: Keeper + Drop>(
+    alloc: Global,
+    study_name: &str,
+    tape_name: &str,
+    files: &mut F,
+    out: &mut O,
+    keepers: Vec<K>,
+) -> (Status, Vec<K>)
+    requires { vec_len keepers ≡ 64 }
+    ensures right { (held : Names) → F.held files.old ≡ Some held → Answers (right_fold held study_name.now tape_name.now) (O.told out.old) (O.told out.new) result.0 }
+    ensures no_usage { result.0 ≡ Status.Usage → ⊥ }
+    ensures read_fault { result.0 ≡ Status.ReadFault → Rose (F.load_faults files.old) (F.load_faults files.new) }
+    ensures write_fault { result.0 ≡ Status.WriteFault → Rose (O.faults out.old) (O.faults out.new) }
+    ensures quiet { IsQuiet result.0 → O.told out.new ≡ O.told out.old }
+    ensures keepers { result.1 ≡ keepers }
+    ensures saves { F.save_faults files.new ≡ F.save_faults files.old }
+{
+    match load_inputs(alloc, files, study_name, tape_name) {
+        Ok(inputs) => {
+            let (answer, keepers) = fold_plain(alloc, &inputs.study, &inputs.tape, out, keepers);
+            return (fold_status(answer), keepers);
+        }
+        Err(refusal) => return (into_status(refusal), keepers),
+    }
+}

@@ -1,0 +1,59 @@
+//! The program `melissa` over the files of the system and standard output.
+
+ghost use Rattle.std.specs.Prelude.{◌≡◌, vec_len, IfOk};
+
+use crate::commands::melissa;
+use mls_base::ends::{StdFiles, StdSink};
+use mls_base::memory::AbsentKeeper;
+use mls_result::Status;
+use std::alloc::{AllocError, Global};
+use std::env;
+use std::process::ExitCode;
+
+/// A keeper for each rank there may be. Each of them fails; no command calls one.
+pub(crate) fn absent_keepers(alloc: Global) -> Result<Vec<AbsentKeeper>, AllocError>
+    ensures { IfOk result (λ keepers. vec_len keepers ≡ 64) }
+{
+    let mut keepers = Vec::new(alloc);
+    for _ in 0..64_u32 {
+        keepers.push(AbsentKeeper::new())?;
+    }
+    Ok(keepers)
+}
+
+/// The words after the program's name.
+fn words(rt: &HostRuntime, alloc: Global) -> Result<Vec<String>, Status> {
+    match env::args(rt) {
+        Ok(args) => match args.skip(1).collect(alloc) {
+            Ok(words) => Ok(words),
+            Err(_) => Err(Status::Memory),
+        },
+        Err(_) => Err(Status::Usage),
+    }
+}
+
+/// Carries out the command of the program's words.
+fn answer(rt: &HostRuntime, alloc: Global) -> Result<Status, Status> {
+    let words = words(rt, alloc)?;
+    let mut files = StdFiles::new(rt);
+    let mut out = StdSink::new(rt);
+    match absent_keepers(alloc) {
+        Ok(keepers) => {
+            let (status, _) = melissa(alloc, words.as_slice(), &mut files, &mut out, keepers);
+            Ok(status)
+        }
+        Err(_) => Err(Status::Memory),
+    }
+}
+
+/// The whole program: carries out the command of its words over the files of the system and standard output, prints the reason
+/// of every answer but `Done` on standard error, and ends with the answer's number.
+pub fn run_program(rt: &HostRuntime) -> ExitCode {
+    let status = match answer(rt, rt.alloc()) {
+        Ok(status) | Err(status) => status,
+    };
+    if status.number() != 0 {
+        let _ = eprintln!(rt; "melissa: {status}");
+    }
+    ExitCode::from(status.number())
+}
