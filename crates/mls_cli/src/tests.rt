@@ -361,17 +361,12 @@ fn files_fail_and_are_too_long(rt: HostRuntime) {
         long.push(b'\n').expect(&rt, "memory");
     }
     let cases = [
-        ([("study", long.as_slice()), ("tape", tape.as_slice())], 12),
-        (
-            [
-                ("study", long.get(1..).unwrap_or(&[])),
-                ("tape", tape.as_slice()),
-            ],
-            2,
-        ),
-        ([("other", STUDY), ("tape", tape.as_slice())], 5),
+        ("study", long.as_slice(), 12),
+        ("study", long.get(1..).unwrap_or(&[]), 2),
+        ("other", STUDY, 5),
     ];
-    for (named, number) in cases {
+    for (name, study, number) in cases {
+        let named = [(name, study), ("tape", tape.as_slice())];
         let (status, bytes) = answer_of(alloc, &words, &named, Vec::new(alloc), 1000).expect(
             &rt, "memory",
         );
@@ -426,19 +421,20 @@ fn words_are_read_in_their_places(rt: HostRuntime) {
         words.push(word).expect(&rt, "memory");
     }
     match read_words(alloc, words.as_slice()) {
-        Ok(
+        Ok(command) => match command {
             Words::Resume {
                 study,
                 old,
                 prefix,
                 tape,
                 schedule,
-            },
-        ) => {
-            assert!(rt; study.as_str() == "s" && old == 3 && schedule.is_none());
-            assert!(rt; prefix.as_str() == "p" && tape.as_str() == "t");
-        }
-        _ => assert!(rt; false, "another command"),
+            } => {
+                assert!(rt; study.as_str() == "s" && old == 3 && schedule.is_none());
+                assert!(rt; prefix.as_str() == "p" && tape.as_str() == "t");
+            }
+            _other => assert!(rt; false, "another command"),
+        },
+        Err(_fault) => assert!(rt; false, "no command"),
     }
     let fault = read_words(alloc, words.get(1..).unwrap_or(&[])).err();
     assert!(rt; fault == Some(WordsFault::Usage));
