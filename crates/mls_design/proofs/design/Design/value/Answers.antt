@@ -1,0 +1,13 @@
+use Rattle.std.proofs.Common.{arith, ◌≡◌, ◌∙◌, ap, length, to_z, of_z}
+use Rattle.std.specs.Int.{w64}
+use Rattle.std.proofs.lemmas.Int.{ints}
+use Rattle.mls_design.specs.Kept.{Kept}
+use Rattle.mls_design.proofs.Drawing.{ranges_are, value_is}
+use Rattle.mls_design.proofs.design.Design.value.Goals as goal
+
+pub returns : goal.returns
+returns c = λ study made.
+    let kept : Kept = record { groups = c.self.inside.groups; ranges = c.self.inside.ranges.items; pairs = c.self.inside.pairs.items } in
+    let same : kept ≡ c.args.self.now = c.self.view_is in
+    let fits : to_z w64 (of_z w64 c.value.result) ≡ c.value.result = omega (arith, ints) in
+    value_is study kept.ranges c.args.group c.args.sim c.args.parameter c.index-range.result.now c.word.result (to_z w64 (of_z w64 c.value.result)) (ranges_are study kept (same ∙ made)) (omega (arith, ap (λ (k : Kept). length k.ranges) same)) c.index-range.ensures (c.word.ensures study made) (fits ∙ c.value.ensures)

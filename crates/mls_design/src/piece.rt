@@ -1,0 +1,106 @@
+//! The pieces that a group sends.
+
+ghost use Rattle.std.specs.Prelude.{◌≡◌, ℕ, ◌+◌, ◌<◌, ◌≤◌, ◌++◌, length, map, IfOk, OnOk};
+ghost use Rattle.std.specs.List.{flat_map};
+ghost use Rattle.mls_model.specs.Numbers.{below};
+ghost use Rattle.mls_model.specs.Blocks.{width};
+ghost use Rattle.mls_model.specs.Frames.{piece};
+ghost use Rattle.mls_model.specs.Designs.{response, solved_row, solved_piece};
+ghost use Rattle.mls_frame.specs.Owned.{owned_frame};
+ghost use Rattle.mls_design.specs.Kept.{design_of};
+
+use crate::design::Design;
+use crate::solver::response;
+use mls_base::faults::NoMemory;
+use mls_frame::{Frame, Piece, Samples};
+use mls_model::blocks::Span;
+use mls_study::Study;
+use std::alloc::Global;
+
+/// Adds the samples of a simulation with these inputs over a run of cells.
+fn add_row(
+    samples: &mut Samples,
+    inputs: &[u16],
+    step: u32,
+    field: u32,
+    cells: Span,
+) -> Result<(), NoMemory>
+    requires some { 1 ≤ length inputs.now }
+    requires few { length inputs.now ≤ 16 }
+    requires step_in { step < 4096 }
+    requires field_in { field < 4 }
+    requires ordered { cells.first ≤ cells.end }
+    requires cells_in { cells.end ≤ 1048576 }
+    requires fits { (shift : ℕ) → response shift inputs.now ≤ 65535 }
+    ensures { OnOk result (samples.new ≡ samples.old ++ map (λ x. response (cells.first + x + step + field) inputs.now) (below (width cells))) }
+{
+    for place in 0..cells.end - cells.first {
+        let sample = response(inputs, cells.first + place + step + field);
+        samples.push(sample as u16)?;
+    }
+    Ok(())
+}
+
+/// The samples of a group's step and field over a run of cells, simulation by simulation.
+fn group_rows(
+    alloc: Global,
+    study: &Study,
+    design: &Design,
+    group: u32,
+    step: u32,
+    field: u32,
+    cells: Span,
+) -> Result<Samples, NoMemory>
+    requires made { design.now ≡ design_of study.now }
+    requires group_in { group < study.now.sizes.groups }
+    requires step_in { step < study.now.sizes.steps }
+    requires field_in { field < study.now.sizes.fields }
+    requires ordered { cells.first ≤ cells.end }
+    requires cells_in { cells.end ≤ study.now.sizes.cells }
+    ensures { IfOk result (λ samples. samples ≡ flat_map (λ sim. solved_row study.now group sim step field cells.first (width cells)) (below (2 + study.now.sizes.parameters))) }
+{
+    study.valid();
+    let count = 2 + study.shape().parameters();
+    let mut samples = Samples::new(alloc);
+    for sim in 0..count {
+        let inputs = design.inputs(group, sim);
+        add_row(&mut samples, inputs.as_slice(), step, field, cells)?;
+    }
+    Ok(samples)
+}
+
+/// The piece of a group's step and field that a client sends to a rank.
+pub fn make_piece(
+    alloc: Global,
+    study: &Study,
+    design: &Design,
+    group: u32,
+    life: u32,
+    step: u32,
+    field: u32,
+    rank: u32,
+    client: u32,
+) -> Result<Frame, NoMemory>
+    requires made { design.now ≡ design_of study.now }
+    requires group_in { group < study.now.sizes.groups }
+    requires step_in { step < study.now.sizes.steps }
+    requires field_in { field < study.now.sizes.fields }
+    requires rank_in { rank < study.now.sizes.ranks }
+    requires client_in { client < study.now.sizes.clients }
+    ensures { IfOk result (λ frame. owned_frame frame ≡ piece (solved_piece study.now group life step field rank client)) }
+{
+    study.valid();
+    let shape = study.shape();
+    let cells = shape.overlap(rank, client);
+    let samples = group_rows(alloc, study, design, group, step, field, cells)?;
+    Ok(Frame::Piece(Piece {
+        life,
+        group,
+        step: shape.plane(step, field),
+        client: client as u16,
+        rows: 2 + shape.parameters() as u16,
+        first: cells.first,
+        count: cells.end - cells.first,
+        samples,
+    }))
+}
