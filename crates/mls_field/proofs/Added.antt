@@ -1,82 +1,96 @@
 -- What adding a row at each place of a plane does to the sums of a block.
-use Rattle.std.proofs.Common.{◌≡◌, ◌≢◌, ℕ, ◌+◌, ◌*◌, ◌<◌, ◌≤◌, Bool, List, [], ◌∷◌, ◌++◌, length, get_or, set, inl, inr, ap, ◌∙◌, sym, subst, arith}
+use Rattle.std.proofs.Common.{◌≡◌, ◌≢◌, ℕ, ◌+◌, ◌*◌, ◌<◌, ◌≤◌, List, length, get_or, set, inl, inr, ap, ◌∙◌, sym, subst, arith}
 use Rattle.std.specs.List.{AllByRecursion}
-use Rattle.std.proofs.lemmas.Nat.{mul-le}
 use Rattle.std.proofs.lemmas.Bool.{cases_order}
 use Rattle.std.proofs.lemmas.List.{length-set, get_or-set_same, get_or-set_other, length_push}
-use Rattle.mls_model.specs.Samples.{shifted}
 use Rattle.mls_model.specs.Studies.{Sizes, planes}
 use Rattle.mls_model.specs.Standing.{Table, with_block}
-use Rattle.mls_power.specs.PowerSums.{HoldsSums, AreInRange}
-use Rattle.mls_field.specs.Cells.{cell_of, AddsRows}
-use Rattle.mls_field.specs.Fields.{IsField, HoldsTable}
-use Rattle.mls_field.specs.ShiftedRows.{shifted_row, shifted_outputs}
-use Rattle.mls_field.proofs.Rows.{length-shifted_row, entry-shifted_row, shifted_outputs_push, all_push}
+use Rattle.mls_field.specs.Cells.{cell_of, AddsRows, HasRoom}
+use Rattle.mls_field.specs.Fields.{IsPart, HoldsPart, IsField, HoldsTable, products_size}
+use Rattle.mls_field.specs.Kinds.{PowersWithin, HoldPowers, ExtremaWithin, HoldExtrema, NumbersWithin, HoldNumbers, ProductsWithin, HoldProducts}
+use Rattle.mls_field.proofs.Rows.{all_push}
 use Rattle.mls_field.proofs.Grid.{plane_before, with_block_there, with_block_elsewhere}
 
-pub in_range_more : (m n : ℕ) (words : List ℕ) → m ≤ n → AreInRange m words → AreInRange n words
-in_range_more m n words h old = record {
-  first = omega (arith, old.first);
-  second = old.second;
-  third = old.third;
-  fourth = old.fourth;
-  spread = omega (arith, old.spread, mul-le m (get_or words 1 0) n (get_or words 1 0) h (omega arith));
-}
-
 -- the cells of another plane stay
-other_plane : (old new : List ℕ) (w step : ℕ) (signed : Bool) (sample : ℕ → ℕ → ℕ) → AddsRows old new (step * w) w signed sample → (plane place : ℕ) → place < w → plane ≢ step → cell_of 6 new (plane * w + place) ≡ cell_of 6 old (plane * w + place)
-other_plane old new w step signed sample adds plane place h apart = elim (cases_order plane step) [
+other_plane : (within : ℕ → List ℕ → Type 0) (holds : List ℕ → List (List ℕ) → Type 0) (size : ℕ) (old new : List ℕ) (w step : ℕ) (row : ℕ → List ℕ) → AddsRows within holds size old new (step * w) w row → (plane place : ℕ) → place < w → plane ≢ step → cell_of size new (plane * w + place) ≡ cell_of size old (plane * w + place)
+other_plane within holds size old new w step row adds plane place h apart = elim (cases_order plane step) [
   | inl same ↦ absurd (apart same)
   | inr (inl low) ↦ (let e = plane_before plane step w low in adds.before (plane * w + place) (omega arith))
   | inr (inr high) ↦ (let e = plane_before step plane w high in adds.behind (plane * w + place) (omega arith))
 ]
 
 -- what is said of each plane and place, from what is said of the plane that grew and of the others
-each_place : (P : ℕ → ℕ → Type 0) (step : ℕ) → ((place : ℕ) → P step place) → ((plane place : ℕ) → plane ≢ step → P plane place) → (plane place : ℕ) → P plane place
+pub each_place : (P : ℕ → ℕ → Type 0) (step : ℕ) → ((place : ℕ) → P step place) → ((plane place : ℕ) → plane ≢ step → P plane place) → (plane place : ℕ) → P plane place
 each_place P step here there plane place = elim (cases_order plane step) [
   | inl same ↦ subst (λ (p : ℕ). P p place) (sym same) (here place)
   | inr (inl low) ↦ there plane place (λ e. absurd (omega arith))
   | inr (inr high) ↦ there plane place (λ e. absurd (omega arith))
 ]
 
-pub field_added : (s : Sizes) (rank w : ℕ) (counts old new : List ℕ) (step n : ℕ) (signed : Bool) (sample : ℕ → ℕ → ℕ) → IsField s rank w counts old → step < planes s → n ≡ get_or counts step 0 → n < 65535 → AddsRows old new (step * w) w signed sample → length new ≡ length old → IsField s rank w (set counts step (n + 1)) new
-field_added s rank w counts old new step n signed sample is within count few adds whole =
+pub part_added : (within : ℕ → List ℕ → Type 0) (holds : List ℕ → List (List ℕ) → Type 0) (size planes w : ℕ) (counts old new : List ℕ) (step n : ℕ) (row : ℕ → List ℕ) → IsPart within size planes w counts old → step < planes → step < length counts → n ≡ get_or counts step 0 → AddsRows within holds size old new (step * w) w row → length new ≡ length old → IsPart within size planes w (set counts step (n + 1)) new
+part_added within holds size planes w counts old new step n row is inside fits count adds whole = record {
+  long = whole ∙ is.long;
+  range = each_place (λ p place. p < planes → place < w → within (get_or (set counts step (n + 1)) p 0) (cell_of size new (p * w + place))) step
+      (λ place _ h.
+      subst (λ (k : ℕ). within k (cell_of size new (step * w + place))) (sym (get_or-set_same counts step (n + 1) 0 fits))
+      ((adds.added place h).range n (subst (λ (k : ℕ). within k (cell_of size old (step * w + place))) (sym count) (is.range step place inside h))))
+      (λ p place apart p_in h.
+      subst (λ (k : ℕ). within k (cell_of size new (p * w + place))) (sym (get_or-set_other counts step p (n + 1) 0 apart))
+      (subst (λ (ws : List ℕ). within (get_or counts p 0) ws) (sym (other_plane within holds size old new w step row adds p place h apart)) (is.range p place p_in h)));
+}
+
+pub holds_added : (within : ℕ → List ℕ → Type 0) (holds : List ℕ → List (List ℕ) → Type 0) (size planes w : ℕ) (old new : List ℕ) (t : Table) (step : ℕ) (row : ℕ → List ℕ) → HoldsPart holds size planes w old t → AddsRows within holds size old new (step * w) w row → HoldsPart holds size planes w new (with_block t step w row)
+holds_added within holds size planes w old new t step row is adds = record {
+  each = each_place (λ p place. p < planes → place < w → holds (cell_of size new (p * w + place)) (with_block t step w row p place)) step
+      (λ place inside h. subst (λ (rs : List (List ℕ)). holds (cell_of size new (step * w + place)) rs) (sym (with_block_there t step w row place h)) ((adds.added place h).adds (t step place) (is.each step place inside h)))
+      (λ p place apart inside h. subst (λ (rs : List (List ℕ)). holds (cell_of size new (p * w + place)) rs) (sym (with_block_elsewhere t step w row p place apart)) (subst (λ (ws : List ℕ). holds ws (t p place)) (sym (other_plane within holds size old new w step row adds p place h apart)) (is.each p place inside h)));
+}
+
+pub counted_added : (planes w : ℕ) (counts : List ℕ) (t : Table) (step n : ℕ) (row : ℕ → List ℕ) → step < length counts → n ≡ get_or counts step 0 → ((plane place : ℕ) → plane < planes → place < w → length (t plane place) ≡ get_or counts plane 0) → (plane place : ℕ) → plane < planes → place < w → length (with_block t step w row plane place) ≡ get_or (set counts step (n + 1)) plane 0
+counted_added planes w counts t step n row fits count holds = each_place (λ p place. p < planes → place < w → length (with_block t step w row p place) ≡ get_or (set counts step (n + 1)) p 0) step
+    (λ place inside h. ap length (with_block_there t step w row place h) ∙ (length_push (t step place) (row place) ∙ omega (arith, holds step place inside h, get_or-set_same counts step (n + 1) 0 fits)))
+    (λ p place apart inside h. ap length (with_block_elsewhere t step w row p place apart) ∙ (holds p place inside h ∙ sym (get_or-set_other counts step p (n + 1) 0 apart)))
+
+pub whole_added : (size planes w : ℕ) (t : Table) (step : ℕ) (row : ℕ → List ℕ) → ((place : ℕ) → length (row place) ≡ size) → ((plane place : ℕ) → plane < planes → place < w → AllByRecursion (λ (r : List ℕ). length r ≡ size) (t plane place)) → (plane place : ℕ) → plane < planes → place < w → AllByRecursion (λ (r : List ℕ). length r ≡ size) (with_block t step w row plane place)
+whole_added size planes w t step row long holds = each_place (λ p place. p < planes → place < w → AllByRecursion (λ (r : List ℕ). length r ≡ size) (with_block t step w row p place)) step
+    (λ place inside h. subst (λ (rs : List (List ℕ)). AllByRecursion (λ (r : List ℕ). length r ≡ size) rs) (sym (with_block_there t step w row place h)) (all_push _ (t step place) (row place) (holds step place inside h) (long place)))
+    (λ p place apart inside h. subst (λ (rs : List (List ℕ)). AllByRecursion (λ (r : List ℕ). length r ≡ size) rs) (sym (with_block_elsewhere t step w row p place apart)) (holds p place inside h))
+
+pub few_added : (counts : List ℕ) (step n : ℕ) → step < length counts → n < 65535 → ((plane : ℕ) → get_or counts plane 0 ≤ 65535) → (plane : ℕ) → get_or (set counts step (n + 1)) plane 0 ≤ 65535
+few_added counts step n fits room few plane = each_place (λ p place. get_or (set counts step (n + 1)) p 0 ≤ 65535) step (λ place. omega (arith, get_or-set_same counts step (n + 1) 0 fits)) (λ p place apart. omega (arith, get_or-set_other counts step p (n + 1) 0 apart, few p)) plane 0
+
+-- each cell of a plane has room for a row
+pub plane_room : (within : ℕ → List ℕ → Type 0) (size planes w : ℕ) (counts words held : List ℕ) (step : ℕ) → IsPart within size planes w counts words → step < planes → get_or counts step 0 < 65535 → held ≡ words → (k : ℕ) → k < w → HasRoom within (cell_of size held (step * w + k))
+plane_room within size planes w counts words held step is inside room same k below =
+    let here : HasRoom within (cell_of size words (step * w + k)) = record { count = get_or counts step 0; few = room; range = is.range step k inside below } in
+    subst (λ (ws : List ℕ). HasRoom within (cell_of size ws (step * w + k))) (sym same) here
+
+-- the cells of a plane lie within the numbers
+pub plane_fits : (within : ℕ → List ℕ → Type 0) (size planes w : ℕ) (counts words held : List ℕ) (step k : ℕ) → IsPart within size planes w counts words → step < planes → k ≡ w → held ≡ words → size * (step * w + k) ≤ length held
+plane_fits within size planes w counts words held step k is inside width same =
+    let end : step * w + k ≤ planes * w = omega (arith, plane_before step planes w inside) in
+    omega (arith, is.long, ap length same, Rattle.std.proofs.lemmas.Nat.mul-le size (step * w + k) size (planes * w) (omega arith) end)
+
+pub field_added : (s : Sizes) (rank w : ℕ) (counts powers ends numbers products powers' ends' numbers' products' : List ℕ) (step n : ℕ) (row : ℕ → List ℕ) → IsField s rank w counts powers ends numbers products → step < planes s → n ≡ get_or counts step 0 → n < 65535 → AddsRows PowersWithin HoldPowers 6 powers powers' (step * w) w row → AddsRows ExtremaWithin HoldExtrema 2 ends ends' (step * w) w row → AddsRows NumbersWithin (HoldNumbers s.thresholds) (length s.thresholds) numbers numbers' (step * w) w row → AddsRows (ProductsWithin s.parameters) (HoldProducts s.parameters) (products_size s) products products' (step * w) w row → length powers' ≡ length powers → length ends' ≡ length ends → length numbers' ≡ length numbers → length products' ≡ length products → IsField s rank w (set counts step (n + 1)) powers' ends' numbers' products'
+field_added s rank w counts powers ends numbers products powers' ends' numbers' products' step n row is within count few a b d e la lb ld le =
     let fits : step < length counts = omega (arith, is.each_plane) in
     record {
       rank_in = is.rank_in;
       block_width = is.block_width;
       each_plane = length-set counts step (n + 1) ∙ is.each_plane;
-      size = whole ∙ is.size;
-      few = λ plane. each_place (λ p place. get_or (set counts step (n + 1)) p 0 ≤ 65535) step (λ place. rw get_or-set_same (omega arith)) (λ p place apart. rw get_or-set_other (is.few p)) plane 0;
-      range = each_place (λ p place. p < planes s → place < w → AreInRange (2 * get_or (set counts step (n + 1)) p 0) (cell_of 6 new (p * w + place))) step
-          (λ place _ h.
-          let more = (adds.added place h).range (2 * n) (subst (λ (k : ℕ). AreInRange (2 * k) (cell_of 6 old (step * w + place))) (sym count) (is.range step place within h)) in
-          let e : 2 * n + 2 ≡ 2 * get_or (set counts step (n + 1)) step 0 = omega (arith, get_or-set_same counts step (n + 1) 0 fits) in
-          subst (λ (k : ℕ). AreInRange k (cell_of 6 new (step * w + place))) e more)
-          (λ p place apart inside h.
-          let e : 2 * get_or counts p 0 ≡ 2 * get_or (set counts step (n + 1)) p 0 = omega (arith, get_or-set_other counts step p (n + 1) 0 apart) in
-          subst (λ (k : ℕ). AreInRange k (cell_of 6 new (p * w + place))) e
-          (subst (λ (ws : List ℕ). AreInRange (2 * get_or counts p 0) ws) (sym (other_plane old new w step signed sample adds p place h apart)) (is.range p place inside h)));
+      few = few_added counts step n fits few is.few;
+      powers_in = part_added PowersWithin HoldPowers 6 (planes s) w counts powers powers' step n row is.powers_in within fits count a la;
+      extrema_in = part_added ExtremaWithin HoldExtrema 2 (planes s) w counts ends ends' step n row is.extrema_in within fits count b lb;
+      numbers_in = part_added NumbersWithin (HoldNumbers s.thresholds) (length s.thresholds) (planes s) w counts numbers numbers' step n row is.numbers_in within fits count d ld;
+      products_in = part_added (ProductsWithin s.parameters) (HoldProducts s.parameters) (products_size s) (planes s) w counts products products' step n row is.products_in within fits count e le;
     }
 
-pub table_added : (s : Sizes) (w : ℕ) (counts old new : List ℕ) (t : Table) (step n rows : ℕ) (signed : Bool) (sample : ℕ → ℕ → ℕ) → HoldsTable s w counts old t → step < length counts → n ≡ get_or counts step 0 → rows ≡ s.parameters + 2 → AddsRows old new (step * w) w signed sample → HoldsTable s w (set counts step (n + 1)) new (with_block t step w (shifted_row signed rows sample))
-table_added s w counts old new t step n rows signed sample holds within count size adds =
-    let row = shifted_row signed rows sample in
-    let t' = with_block t step w row in
-    record {
-      counted = each_place (λ p place. p < planes s → place < w → length (t' p place) ≡ get_or (set counts step (n + 1)) p 0) step
-          (λ place inside h. ap length (with_block_there t step w row place h) ∙ (length_push (t step place) (row place) ∙ omega (arith, holds.counted step place inside h, get_or-set_same counts step (n + 1) 0 within)))
-          (λ p place apart inside h. ap length (with_block_elsewhere t step w row p place apart) ∙ (holds.counted p place inside h ∙ sym (get_or-set_other counts step p (n + 1) 0 apart)));
-      whole = each_place (λ p place. p < planes s → place < w → AllByRecursion (λ (r : List ℕ). length r ≡ s.parameters + 2) (t' p place)) step
-          (λ place inside h. subst (λ (rs : List (List ℕ)). AllByRecursion (λ (r : List ℕ). length r ≡ s.parameters + 2) rs) (sym (with_block_there t step w row place h)) (all_push _ (t step place) (row place) (holds.whole step place inside h) (length-shifted_row signed rows sample place ∙ size)))
-          (λ p place apart inside h. subst (λ (rs : List (List ℕ)). AllByRecursion (λ (r : List ℕ). length r ≡ s.parameters + 2) rs) (sym (with_block_elsewhere t step w row p place apart)) (holds.whole p place inside h));
-      sums = each_place (λ p place. p < planes s → place < w → HoldsSums (cell_of 6 new (p * w + place)) (shifted_outputs (t' p place))) step
-          (λ place inside h.
-          let a = entry-shifted_row signed rows sample place 0 (omega arith) in
-          let b = entry-shifted_row signed rows sample place 1 (omega arith) in
-          let more = (adds.added place h).adds (shifted_outputs (t step place)) (holds.sums step place inside h) in
-          let same : shifted_outputs (t step place) ++ shifted signed (sample 0 place) ∷ shifted signed (sample 1 place) ∷ [] ≡ shifted_outputs (t' step place) =
-          ap (λ (x : ℕ). shifted_outputs (t step place) ++ x ∷ shifted signed (sample 1 place) ∷ []) (sym a) ∙ (ap (λ (x : ℕ). shifted_outputs (t step place) ++ get_or (row place) 0 0 ∷ x ∷ []) (sym b) ∙ (sym (shifted_outputs_push (t step place) (row place)) ∙ ap shifted_outputs (sym (with_block_there t step w row place h)))) in
-          subst (λ (ws : List ℕ). HoldsSums (cell_of 6 new (step * w + place)) ws) same more)
-          (λ p place apart inside h. subst (λ (rs : List (List ℕ)). HoldsSums (cell_of 6 new (p * w + place)) (shifted_outputs rs)) (sym (with_block_elsewhere t step w row p place apart)) (subst (λ (ws : List ℕ). HoldsSums ws (shifted_outputs (t p place))) (sym (other_plane old new w step signed sample adds p place h apart)) (holds.sums p place inside h)));
-    }
+pub table_added : (s : Sizes) (w : ℕ) (counts powers ends numbers products powers' ends' numbers' products' : List ℕ) (t : Table) (step n : ℕ) (row : ℕ → List ℕ) → HoldsTable s w counts powers ends numbers products t → step < length counts → n ≡ get_or counts step 0 → ((place : ℕ) → length (row place) ≡ s.parameters + 2) → AddsRows PowersWithin HoldPowers 6 powers powers' (step * w) w row → AddsRows ExtremaWithin HoldExtrema 2 ends ends' (step * w) w row → AddsRows NumbersWithin (HoldNumbers s.thresholds) (length s.thresholds) numbers numbers' (step * w) w row → AddsRows (ProductsWithin s.parameters) (HoldProducts s.parameters) (products_size s) products products' (step * w) w row → HoldsTable s w (set counts step (n + 1)) powers' ends' numbers' products' (with_block t step w row)
+table_added s w counts powers ends numbers products powers' ends' numbers' products' t step n row holds fits count long a b d e = record {
+  counted = counted_added (planes s) w counts t step n row fits count holds.counted;
+  whole = whole_added (s.parameters + 2) (planes s) w t step row long holds.whole;
+  powers_of = holds_added PowersWithin HoldPowers 6 (planes s) w powers powers' t step row holds.powers_of a;
+  extrema_of = holds_added ExtremaWithin HoldExtrema 2 (planes s) w ends ends' t step row holds.extrema_of b;
+  numbers_of = holds_added NumbersWithin (HoldNumbers s.thresholds) (length s.thresholds) (planes s) w numbers numbers' t step row holds.numbers_of d;
+  products_of = holds_added (ProductsWithin s.parameters) (HoldProducts s.parameters) (products_size s) (planes s) w products products' t step row holds.products_of e;
+}

@@ -1,5 +1,5 @@
 -- Rows of shifted values, and the samples A and B of rows.
-use Rattle.std.proofs.Common.{◌≡◌, ℕ, zero, suc, ◌+◌, ◌*◌, ◌<◌, List, [], ◌∷◌, ◌++◌, length, map, get_or, Bool, ℤ, ap, ◌∙◌, refl, inl, inr, arith}
+use Rattle.std.proofs.Common.{◌≡◌, ℕ, zero, suc, ◌+◌, ◌*◌, ◌<◌, List, [], ◌∷◌, ◌++◌, length, map, get_or, Bool, ℤ, append_assoc, ap, ◌∙◌, refl, sym, inl, inr, arith}
 use Rattle.std.specs.List.{AllByRecursion}
 use Rattle.std.proofs.lemmas.List.{map-append, length-map, length-append, get_or_at, get_or_append_left}
 use Rattle.std.proofs.lemmas.List.Concat.{flat_map-append}
@@ -31,6 +31,12 @@ entry-shifted_row signed n sample place i h = entry_of (λ row. shifted signed (
 
 pub shifted_outputs_push : (rows : List (List ℕ)) (row : List ℕ) → shifted_outputs (rows ++ row ∷ []) ≡ shifted_outputs rows ++ get_or row 0 0 ∷ get_or row 1 0 ∷ []
 shifted_outputs_push rows row = flat_map-append (λ (r : List ℕ). get_or r 0 0 ∷ get_or r 1 0 ∷ []) rows (row ∷ [])
+
+-- the outputs of one more row whose samples A and B are given
+pub outputs_more : (rows : List (List ℕ)) (row : List ℕ) (a b : ℕ) → get_or row 0 0 ≡ a → get_or row 1 0 ≡ b → (shifted_outputs rows ++ a ∷ []) ++ b ∷ [] ≡ shifted_outputs (rows ++ row ∷ [])
+outputs_more rows row a b e f =
+    append_assoc (shifted_outputs rows) (a ∷ []) (b ∷ []) ∙
+    (ap (λ (x : ℕ). shifted_outputs rows ++ x ∷ b ∷ []) (sym e) ∙ (ap (λ (x : ℕ). shifted_outputs rows ++ get_or row 0 0 ∷ x ∷ []) (sym f) ∙ sym (shifted_outputs_push rows row)))
 
 pub length-shifted_outputs : (rows : List (List ℕ)) → length (shifted_outputs rows) ≡ 2 * length rows
 length-shifted_outputs [] = refl

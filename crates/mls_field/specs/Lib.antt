@@ -1,4 +1,5 @@
 pub mod Cells
 pub mod Fields
+pub mod Kinds
 pub mod ShiftedRows
 pub mod Stands

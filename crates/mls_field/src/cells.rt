@@ -1,12 +1,14 @@
-//! Sums of cells in packed storage.
+//! Adding a row to the sums of a cell, one kind of sums a function.
 
-ghost use Rattle.std.specs.Prelude.{◌≡◌, ℕ, ◌+◌, ◌*◌, ◌%◌, ◌<◌, ◌≤◌, List, length};
+ghost use Rattle.std.specs.Prelude.{◌≡◌, ℕ, List, length, slice_index};
 ghost use Rattle.mls_model.specs.Samples.{shifted};
-ghost use Rattle.mls_power.specs.PowerSums.{AreInRange};
-ghost use Rattle.mls_field.specs.Cells.{cell_of, AddsRow, AddsRows};
+ghost use Rattle.mls_field.specs.Cells.{AddsRow, HasRoom};
+ghost use Rattle.mls_field.specs.Kinds.{PowersWithin, HoldPowers, ExtremaWithin, HoldExtrema, NumbersWithin, HoldNumbers};
 
-use mls_base::rows::Rows;
-use mls_power::sums::{POWER_WORDS, add_sample};
+use mls_base::shape::Shape;
+use mls_power::above::add_above;
+use mls_power::ends::add_to_extrema;
+use mls_power::sums::add_sample;
 
 /// The shifted value of a sample.
 pub(crate) fn shifted_value(signed: bool, sample: u16) -> u16
@@ -19,27 +21,31 @@ pub(crate) fn shifted_value(signed: bool, sample: u16) -> u16
     }
 }
 
-/// Adds a row's samples A and B to the words of a cell.
-fn add_row(words: &mut [u64], a: u16, b: u16)
+/// Adds a row's samples A and B to the power sums of a cell.
+pub(crate) fn add_to_powers(words: &mut [u64], a: u16, b: u16)
     requires size { length words.old ≡ 6 }
-    requires room { AreInRange 131068 words.old }
-    ensures { AddsRow words.old words.new a b }
+    requires room { HasRoom PowersWithin words.old }
+    ensures { (row : List ℕ) → slice_index row 0 ≡ a → slice_index row 1 ≡ b → AddsRow PowersWithin HoldPowers words.old words.new row }
 {
     add_sample(words, a);
     add_sample(words, b);
 }
 
-/// Adds a row of a block's samples to each of its cells, which lie in the words from the cell `first` on.
-pub(crate) fn add_rows<R: Rows>(words: &mut [u64], first: usize, signed: bool, rows: &R)
-    requires samples { 2 ≤ R.row_count rows.now }
-    requires cells { 6 * (first + R.place_count rows.now) ≤ length words.old }
-    requires room { (k : ℕ) → k < R.place_count rows.now → AreInRange 131068 (cell_of 6 words.old (first + k)) }
-    ensures { AddsRows words.old words.new first (R.place_count rows.now) signed (R.sample rows.now) }
+/// Adds them to its least and greatest sample.
+pub(crate) fn add_to_ends(ends: &mut [u16], a: u16, b: u16)
+    requires { length ends.old ≡ 2 }
+    ensures { (row : List ℕ) → slice_index row 0 ≡ a → slice_index row 1 ≡ b → AddsRow ExtremaWithin HoldExtrema ends.old ends.new row }
 {
-    for cell in 0..rows.cells() {
-        let a = shifted_value(signed, rows.at(0, cell));
-        let b = shifted_value(signed, rows.at(1, cell));
-        let at = (first + cell as usize) * POWER_WORDS;
-        add_row(&mut words[at..at + POWER_WORDS], a, b);
-    }
+    add_to_extrema(ends, a);
+    add_to_extrema(ends, b);
+}
+
+/// Adds them to its numbers above the thresholds.
+pub(crate) fn add_to_numbers(numbers: &mut [u32], shape: &Shape, a: u16, b: u16)
+    requires size { length numbers.old ≡ length shape.now.thresholds }
+    requires room { HasRoom NumbersWithin numbers.old }
+    ensures { (row : List ℕ) → slice_index row 0 ≡ a → slice_index row 1 ≡ b → AddsRow NumbersWithin (HoldNumbers shape.now.thresholds) numbers.old numbers.new row }
+{
+    add_above(numbers, shape, a);
+    add_above(numbers, shape, b);
 }

@@ -1,6 +1,7 @@
 //! Sums over the rows of samples of a rank's block.
 #![tactic(auto)]
 
+mod blocks;
 mod cells;
 pub mod field;
 pub mod fold;

@@ -9,6 +9,7 @@ use mls_base::faults::NoMemory;
 use mls_base::numbers::Numbers;
 use mls_base::rows::Rows;
 use mls_base::shape::Shape;
+use mls_cov::IndexParts;
 use mls_power::power::Powers;
 
 #[derive(Drop)]
@@ -54,8 +55,8 @@ fn shape_of_parts(cells: u32, steps: u32, ranks: u32, signed: bool) -> Option<Sh
         slots: 1,
         silence: 300,
         lives: 3,
-        thresholds: 0,
-        threshold: [0; 8],
+        thresholds: 2,
+        threshold: [1, 3, 0, 0, 0, 0, 0, 0],
         signed,
         fields: 1,
     })
@@ -232,6 +233,121 @@ fn cells_of_a_block_at_two_steps(rt: HostRuntime) -> Result<(), NoMemory> {
         assert_eq!(rt; look(&field, &shape, 1, 1, 2), None);
     } else {
         assert!(rt; false, "a shape of three cells");
+    }
+    Ok(())
+}
+
+// What else a cell's sums give: the least and the greatest sample, the numbers above 1 and above 3, and the parts of the index.
+#[derive(Debug, PartialEq, Eq, Drop)]
+struct Ends {
+    least: u16,
+    greatest: u16,
+    above: (u32, u32),
+    parts: IndexParts,
+}
+
+fn look_further(field: &Field, shape: &Shape, rank: u32, step: u32, cell: u32) -> Option<Ends>
+    requires shape { field_shape field.now ≡ shape.now }
+    requires rank { field_rank field.now ≡ rank }
+    requires rank_in { rank < shape.now.ranks }
+{
+    let span = shape.block(rank);
+    if step < shape.planes() && cell < span.end - span.first {
+        let extrema = field.extrema(step, cell);
+        let exceed = field.exceed(step, cell);
+        Some(Ends {
+            least: extrema.least(),
+            greatest: extrema.greatest(),
+            above: (exceed.above(0), exceed.above(1)),
+            parts: field.martinez(step, cell).index(0),
+        })
+    } else {
+        None
+    }
+}
+
+fn further(least: u16, greatest: u16, above: (u32, u32), parts: IndexParts) -> Option<Ends> {
+    Some(Ends {
+        least,
+        greatest,
+        above,
+        parts,
+    })
+}
+
+const NO_PARTS: IndexParts = IndexParts {
+    cov_b: 0,
+    cov_a: 0,
+    var_a: 0,
+    var_b: 0,
+    var_c: 0,
+};
+
+#[test]
+fn extrema_numbers_above_and_indices_of_two_groups(rt: HostRuntime) -> Result<(), NoMemory> {
+    let shape = shape_of_parts(1, 1, 1, false).expect(&rt, "a shape of one cell");
+    let mut field = Field::new(rt.alloc(), &shape, 0)?;
+    let none = further(65535, 0, (0, 0), NO_PARTS);
+    assert_eq!(rt; look_further(&field, &shape, 0, 0, 0), none);
+    add(
+        &mut field,
+        &shape,
+        0,
+        0,
+        &Grid {
+            samples: &[1, 3, 3],
+            rows: 3,
+            cells: 1,
+        },
+    );
+    add(
+        &mut field,
+        &shape,
+        0,
+        0,
+        &Grid {
+            samples: &[5, 1, 1],
+            rows: 3,
+            cells: 1,
+        },
+    );
+    let parts = IndexParts {
+        cov_b: 4,
+        cov_a: -8,
+        var_a: 16,
+        var_b: 4,
+        var_c: 4,
+    };
+    let two = further(1, 5, (2, 1), parts);
+    assert_eq!(rt; look_further(&field, &shape, 0, 0, 0), two);
+    field.reset();
+    assert_eq!(rt; look_further(&field, &shape, 0, 0, 0), none);
+    Ok(())
+}
+
+#[test]
+fn further_sums_of_a_block_at_two_steps(rt: HostRuntime) -> Result<(), NoMemory> {
+    let shape = shape_of_parts(3, 2, 2, false).expect(&rt, "a shape of three cells");
+    let mut field = Field::new(rt.alloc(), &shape, 1)?;
+    add(
+        &mut field,
+        &shape,
+        1,
+        1,
+        &Grid {
+            samples: &[1, 2, 3, 4, 9, 9],
+            rows: 3,
+            cells: 2,
+        },
+    );
+    for (step, cell, least, greatest, above) in [
+        (0, 0, 65535, 0, (0, 0)),
+        (0, 1, 65535, 0, (0, 0)),
+        (1, 0, 1, 3, (1, 0)),
+        (1, 1, 2, 4, (2, 1)),
+    ] {
+        let wanted = further(least, greatest, above, NO_PARTS);
+        assert_eq!(rt; look_further(&field, &shape, 1, step, cell), wanted);
     }
     Ok(())
 }

@@ -1,4 +1,4 @@
-use Rattle.std.proofs.Common.{ℕ, ◌+◌, ◌*◌, ◌<◌, List, sym, subst, arith}
+use Rattle.std.proofs.Common.{ℕ, ◌+◌, ◌*◌, ◌<◌, List, ap, sym, subst, arith}
 use Rattle.mls_power.specs.PowerSums.{HoldsSums, AreInRange}
 use Rattle.mls_field.specs.Cells.{cell_of}
 use Rattle.mls_field.specs.ShiftedRows.{shifted_outputs}
@@ -11,8 +11,8 @@ unpacked-requires-clause-range c =
     let f = c.args.self.now in
     let cell = c.args.step * f.places + c.args.cell in
     let below : c.args.cell < f.places = omega (arith, f.kept.block_width, c.requires.cell_in) in
-    subst (λ (ws : List ℕ). AreInRange (2 * c.rows.result) ws) (sym (part_of f.words.items c.deref.result.now cell c.start-at.result c.deref.ensures.value c.start-at.ensures.start))
-    (subst (λ (k : ℕ). AreInRange (2 * k) (cell_of 6 f.words.items cell)) (sym c.rows.ensures.value) (f.kept.range c.args.step c.args.cell c.requires.step_in below))
+    subst (λ (ws : List ℕ). AreInRange (2 * c.rows.result) ws) (sym (part_of 6 f.powers.items c.deref.result.now cell _ c.deref.ensures.value (ap (λ (k : ℕ). k * 6) c.cell-at.ensures.value)))
+    (subst (λ (k : ℕ). AreInRange (2 * k) (cell_of 6 f.powers.items cell)) (sym c.rows.ensures.value) (f.kept.powers_in.range c.args.step c.args.cell c.requires.step_in below))
 
 pub returns-clause-sums : goal.returns-clause-sums
 returns-clause-sums c = λ t stands.
@@ -21,4 +21,4 @@ returns-clause-sums c = λ t stands.
     let rows = t c.args.step c.args.cell in
     let below : c.args.cell < f.places = omega (arith, f.kept.block_width, c.requires.cell_in) in
     c.unpacked.ensures.sums (shifted_outputs rows) (omega (arith, length-shifted_outputs rows, stands.counted c.args.step c.args.cell c.requires.step_in below, c.rows.ensures.value))
-    (subst (λ (ws : List ℕ). HoldsSums ws (shifted_outputs rows)) (sym (part_of f.words.items c.deref.result.now cell c.start-at.result c.deref.ensures.value c.start-at.ensures.start)) (stands.sums c.args.step c.args.cell c.requires.step_in below))
+    (subst (λ (ws : List ℕ). HoldsSums ws (shifted_outputs rows)) (sym (part_of 6 f.powers.items c.deref.result.now cell _ c.deref.ensures.value (ap (λ (k : ℕ). k * 6) c.cell-at.ensures.value))) (stands.powers_of.each c.args.step c.args.cell c.requires.step_in below))

@@ -1,0 +1,105 @@
+//! Adding the rows of a block to the sums of its cells, one kind of sums a function. The cells lie in the sums from the cell `first` on.
+
+ghost use Rattle.std.specs.Prelude.{◌≡◌, ℕ, ◌+◌, ◌*◌, ◌^◌, ◌<◌, ◌≤◌, length, take, slice_index};
+ghost use Rattle.mls_field.specs.Cells.{cell_of, AddsRows, HasRoom};
+ghost use Rattle.mls_field.specs.Kinds.{PowersWithin, HoldPowers, ExtremaWithin, HoldExtrema, NumbersWithin, HoldNumbers, ProductsWithin, HoldProducts};
+ghost use Rattle.mls_field.specs.ShiftedRows.{shifted_row};
+
+use crate::cells::{add_to_ends, add_to_numbers, add_to_powers, shifted_value};
+use mls_base::rows::Rows;
+use mls_base::shape::Shape;
+use mls_cov::sums::{add_row, sum_count};
+use mls_power::ends::{EXTREMA_NUMBERS, NO_EXTREMA};
+use mls_power::sums::POWER_WORDS;
+
+/// Adds the samples A and B at each place of a block to the power sums.
+pub(crate) fn add_powers<R: Rows>(words: &mut [u64], first: usize, signed: bool, rows: &R)
+    requires samples { 2 ≤ R.row_count rows.now }
+    requires cells { 6 * (first + R.place_count rows.now) ≤ length words.old }
+    requires room { (k : ℕ) → k < R.place_count rows.now → HasRoom PowersWithin (cell_of 6 words.old (first + k)) }
+    ensures { AddsRows PowersWithin HoldPowers 6 words.old words.new first (R.place_count rows.now) (shifted_row signed (R.row_count rows.now) (R.sample rows.now)) }
+{
+    for cell in 0..rows.cells() {
+        let a = shifted_value(signed, rows.at(0, cell));
+        let b = shifted_value(signed, rows.at(1, cell));
+        let at = (first + cell as usize) * POWER_WORDS;
+        add_to_powers(&mut words[at..at + POWER_WORDS], a, b);
+    }
+}
+
+/// Adds them to the least and greatest samples.
+pub(crate) fn add_ends<R: Rows>(ends: &mut [u16], first: usize, signed: bool, rows: &R)
+    requires samples { 2 ≤ R.row_count rows.now }
+    requires cells { 2 * (first + R.place_count rows.now) ≤ length ends.old }
+    ensures { AddsRows ExtremaWithin HoldExtrema 2 ends.old ends.new first (R.place_count rows.now) (shifted_row signed (R.row_count rows.now) (R.sample rows.now)) }
+{
+    for cell in 0..rows.cells() {
+        let a = shifted_value(signed, rows.at(0, cell));
+        let b = shifted_value(signed, rows.at(1, cell));
+        let at = (first + cell as usize) * EXTREMA_NUMBERS;
+        add_to_ends(&mut ends[at..at + EXTREMA_NUMBERS], a, b);
+    }
+}
+
+/// Adds them to the numbers above the thresholds.
+pub(crate) fn add_numbers<R: Rows>(numbers: &mut [u32], first: usize, shape: &Shape, rows: &R)
+    requires samples { 2 ≤ R.row_count rows.now }
+    requires few { first + R.place_count rows.now < 2 ^ 62 }
+    requires cells { length shape.now.thresholds * (first + R.place_count rows.now) ≤ length numbers.old }
+    requires room { (k : ℕ) → k < R.place_count rows.now → HasRoom NumbersWithin (cell_of (length shape.now.thresholds) numbers.old (first + k)) }
+    ensures { AddsRows NumbersWithin (HoldNumbers shape.now.thresholds) (length shape.now.thresholds) numbers.old numbers.new first (R.place_count rows.now) (shifted_row shape.now.signed (R.row_count rows.now) (R.sample rows.now)) }
+{
+    let size = shape.thresholds() as usize;
+    let signed = shape.signed();
+    for cell in 0..rows.cells() {
+        let a = shifted_value(signed, rows.at(0, cell));
+        let b = shifted_value(signed, rows.at(1, cell));
+        let at = (first + cell as usize) * size;
+        add_to_numbers(&mut numbers[at..at + size], shape, a, b);
+    }
+}
+
+/// The row of shifted values at a place of a block, in the front of an array.
+fn row_at<R: Rows>(rows: &R, signed: bool, place: u32) -> [u16; 18]
+    requires few { R.row_count rows.now ≤ 18 }
+    requires place { place < R.place_count rows.now }
+    ensures { take (R.row_count rows.now) result ≡ shifted_row signed (R.row_count rows.now) (R.sample rows.now) place }
+{
+    let mut row = [0; 18];
+    for i in 0..rows.rows() {
+        row[i as usize] = shifted_value(signed, rows.at(i, place));
+    }
+    row
+}
+
+/// Adds the row at each place of a block to the sums of samples and products.
+pub(crate) fn add_products<R: Rows>(words: &mut [u64], first: usize, shape: &Shape, rows: &R)
+    requires samples { R.row_count rows.now ≡ shape.now.parameters + 2 }
+    requires cells { (4 + 4 * shape.now.parameters) * (first + R.place_count rows.now) ≤ length words.old }
+    requires room { (k : ℕ) → k < R.place_count rows.now → HasRoom (ProductsWithin shape.now.parameters) (cell_of (4 + 4 * shape.now.parameters) words.old (first + k)) }
+    ensures { AddsRows (ProductsWithin shape.now.parameters) (HoldProducts shape.now.parameters) (4 + 4 * shape.now.parameters) words.old words.new first (R.place_count rows.now) (shifted_row shape.now.signed (R.row_count rows.now) (R.sample rows.now)) }
+{
+    let parameters = shape.parameters();
+    let signed = shape.signed();
+    let size = sum_count(parameters);
+    for cell in 0..rows.cells() {
+        let row = row_at(rows, signed, cell);
+        let at = (first + cell as usize) * size;
+        add_row(
+            &mut words[at..at + size],
+            parameters,
+            &row[..parameters as usize + 2],
+        );
+    }
+}
+
+/// Puts the numbers of no samples into all cells of the least and greatest samples.
+pub(crate) fn clear_ends(ends: &mut [u16])
+    ensures least { (cell : ℕ) → 2 * cell + 1 < length ends.old → slice_index ends.new (2 * cell) ≡ 65535 }
+    ensures greatest { (cell : ℕ) → 2 * cell + 1 < length ends.old → slice_index ends.new (2 * cell + 1) ≡ 0 }
+{
+    for cell in 0..ends.len() / EXTREMA_NUMBERS {
+        ends[2 * cell] = NO_EXTREMA[0];
+        ends[2 * cell + 1] = NO_EXTREMA[1];
+    }
+}
