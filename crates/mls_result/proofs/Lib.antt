@@ -1,6 +1,9 @@
 pub mod CellText
+pub mod Ends
 pub mod Loops
 pub mod Named
+pub mod Numbers
+pub mod Parameters
 pub mod Powers
 pub mod RankLines
 pub mod Splits

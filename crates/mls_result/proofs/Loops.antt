@@ -1,10 +1,15 @@
 -- A loop over the numbers below one writes a text for each.
-use Rattle.std.proofs.Common.{◌≡◌, List, ℕ, zero, suc, [], ◌∷◌, ◌++◌, ◌+◌, ◌<◌, ◌≤◌, length, length-append, drop, get_or, Option, refl, sym, ◌∙◌, ap, subst, arith, inl, inr}
+use Rattle.std.proofs.Common.{◌≡◌, List, ℕ, zero, suc, [], ◌∷◌, ◌++◌, ◌+◌, ◌<◌, ◌≤◌, length, length-append, map, drop, get_or, Option, refl, sym, ◌∙◌, ap, subst, arith, inl, inr}
 use Rattle.std.specs.List.{flat_map}
 use Rattle.std.proofs.lemmas.Bool.{cases_lt}
 use Rattle.mls_base.specs.Told.{appended, WroteFront}
 use Rattle.mls_model.specs.Numbers.{below}
 use Rattle.mls_text.proofs.Writing.{IsFrontOut, texts_more, texts_failed, texts_all}
+
+-- so many numbers from one on
+abbrev from : ℕ → ℕ → List ℕ
+from start zero = []
+from start (suc n) = start ∷ from (start + 1) n
 
 pub length-below : (n : ℕ) → length (below n) ≡ n
 length-below zero = refl
@@ -36,3 +41,21 @@ number_failed f i n text old mid new before now here out failed =
 
 pub number_all : (f : ℕ → List ℕ) (i n : ℕ) (text : List ℕ) (old new : Option (List ℕ)) (before now : ℕ) → n ≤ i → IsFrontOut (flat_map f (drop i (below n))) text old new before now → new ≡ appended old text
 number_all f i n text old new before now past out = texts_all f i (below n) text old new before now (omega (arith, past, length-below n)) out
+
+-- what is made of the elements of a list, where each is what is made of its place
+from_place : {X Y : Type 0} (f : X → Y) (g : ℕ → Y) (start : ℕ) (xs : List X) → ((i : ℕ) (d : X) → i < length xs → f (get_or xs i d) ≡ g (start + i)) → map f xs ≡ map g (from start (length xs))
+from_place f g start [] same = refl
+from_place f g start (x ∷ xs) same =
+    ap (λ y. y ∷ map f xs) (same 0 x (omega arith) ∙ ap g (omega arith))
+    ∙ ap (λ ys. g start ∷ ys) (from_place f g (start + 1) xs (λ i d here. same (suc i) d (omega (arith, here)) ∙ ap g (omega arith)))
+
+from_below : (start n : ℕ) → from start (suc n) ≡ from start n ++ (start + n) ∷ []
+from_below start zero = ap (λ x. x ∷ []) (omega arith)
+from_below start (suc n) = ap (λ xs. start ∷ xs) (from_below (start + 1) n) ∙ ap (λ x. start ∷ (from (start + 1) n ++ x ∷ [])) (omega arith)
+
+below_is : (n : ℕ) → from 0 n ≡ below n
+below_is zero = refl
+below_is (suc n) = from_below 0 n ∙ ap (λ k. from 0 n ++ k ∷ []) (omega arith) ∙ ap (λ xs. xs ++ n ∷ []) (below_is n)
+
+pub map_is : {X Y : Type 0} (f : X → Y) (g : ℕ → Y) (xs : List X) (n : ℕ) → length xs ≡ n → ((i : ℕ) (d : X) → i < length xs → f (get_or xs i d) ≡ g i) → map f xs ≡ map g (below n)
+map_is f g xs n long same = from_place f g 0 xs (λ i d here. same i d here ∙ ap g (omega arith)) ∙ ap (map g) (below_is (length xs) ∙ ap below long)

@@ -1,4 +1,4 @@
--- The whole text of a study with one rank.
+-- The whole text of a study.
 use Rattle.std.proofs.Common.{◌≡◌, List, ℕ, suc, [], ◌∷◌, ◌++◌, ◌+◌, ◌<◌, length, map, get_or, refl, sym, ◌∙◌, ap, subst, arith, append_assoc}
 use Rattle.mls_field.specs.declared.fold.RowFold.{Ghosts}
 use Rattle.mls_model.specs.declared.lanes.LaneLine.{LaneLine}
@@ -12,19 +12,18 @@ use Rattle.mls_model.specs.ResultText.{study_line, rank_lines, lane_lines, cells
 use Rattle.mls_rank.specs.declared.rank_core.RankCore.{RankCore}
 use Rattle.mls_rank.specs.Cores.{sizes_of, rank_of, counts_of}
 use Rattle.mls_rank.specs.Standing.{StandsFor}
+use Rattle.mls_result.proofs.Loops.{map_is}
 use Rattle.mls_result.specs.Words.{title_words, end_words}
 use Rattle.mls_result.specs.Histories.{history_counts, history_rows, history_text, AreCores, AllStand}
 
--- the counts of the one core
-pub counts_are : {F : Type 0} {T : Ghosts F} (s : Sizes) (cores : List (RankCore F T)) (histories : ℕ → List Event) → s.ranks ≡ 1 → AreCores s cores → AllStand cores histories → map counts_of cores ≡ history_counts s histories
-counts_are s [] histories one are stand = absurd (let n = are.count in omega (arith, n, one))
-counts_are s (core ∷ []) histories one are stand =
-    let stands = stand.each 0 core (omega arith) in
-    let is_sizes = are.sizes 0 core (omega arith) in
-    let is_rank = are.ranks 0 core (omega arith) in
-    let same = stands.counts ∙ ap (λ z. counts z (rank_of core) (surviving (histories 0))) is_sizes ∙ ap (λ r. counts s r (surviving (histories 0))) is_rank in
-    ap (λ (n : Counts). n ∷ []) same ∙ ap (λ n. map (λ rank. counts s rank (surviving (histories rank))) (below n)) (sym one)
-counts_are s (core ∷ other ∷ rest) histories one are stand = absurd (let n = are.count in omega (arith, n, one))
+-- the counts of the cores
+pub counts_are : {F : Type 0} {T : Ghosts F} (s : Sizes) (cores : List (RankCore F T)) (histories : ℕ → List Event) → AreCores s cores → AllStand cores histories → map counts_of cores ≡ history_counts s histories
+counts_are s cores histories are stand =
+    map_is counts_of (λ rank. counts s rank (surviving (histories rank))) cores s.ranks are.count
+    (λ rank d here.
+    (stand.each rank d here).counts
+    ∙ ap (λ z. counts z (rank_of (get_or cores rank d)) (surviving (histories rank))) (are.sizes rank d here)
+    ∙ ap (λ r. counts s r (surviving (histories rank))) (are.ranks rank d here))
 
 -- the text in the parts that are written
 pub text-split : (study : Study) (histories : ℕ → List Event) (lines : List LaneLine) (all : List Counts) → all ≡ history_counts study.sizes histories → history_text study histories lines ≡ (title_words ++ study_line study) ++ (rank_lines all ++ (lane_lines lines ++ (cells_text study (history_rows study.sizes histories) ++ end_words)))

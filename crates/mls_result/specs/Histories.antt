@@ -1,10 +1,9 @@
 -- The text of a study from the histories of its ranks.
-use Rattle.std.specs.Prelude.{◌≡◌, ℕ, ◌<◌, Bool, false, List, [], length, get_or, map, ℤ, Option, Some, None}
+use Rattle.std.specs.Prelude.{◌≡◌, ℕ, ◌<◌, List, [], length, get_or, map, ℤ, Option, Some, None}
 use Rattle.mls_model.specs.declared.lanes.LaneLine.{LaneLine}
 use Rattle.mls_model.specs.declared.outcomes.Counts.{Counts}
-use Rattle.mls_model.specs.declared.studies.Statistic.TheVariants.{Extrema, Exceed, Sobol}
 use Rattle.mls_model.specs.Numbers.{below}
-use Rattle.mls_model.specs.Studies.{Sizes, Study, shows}
+use Rattle.mls_model.specs.Studies.{Sizes, Study}
 use Rattle.mls_model.specs.Blocks.{rank_of}
 use Rattle.mls_model.specs.Frames.{Piece}
 use Rattle.mls_model.specs.Histories.{Event}
@@ -32,12 +31,6 @@ history_counts s histories = map (λ rank. counts s rank (surviving (histories r
 -- the result text, where each rank has such a history
 unfoldable pub history_text : Study → (ℕ → List Event) → List LaneLine → List ℕ
 history_text study histories lines = text_of study (history_counts study.sizes histories) lines (history_rows study.sizes histories)
-
--- the study shows power and nothing else
-pub record ShowsPowerAlone (study : Study) : Type 0 where
-  pub no_extrema : shows study Extrema ≡ false
-  pub no_exceed : shows study Exceed ≡ false
-  pub no_indices : shows study Sobol ≡ false
 
 -- One core for each rank of a study, in order.
 pub record AreCores {F : Type 0} {T : Ghosts F} (s : Sizes) (cores : List (RankCore F T)) : Type 0 where

@@ -1,3 +1,4 @@
+pub mod Counted
 pub mod Histories
 pub mod Statuses
 pub mod Words

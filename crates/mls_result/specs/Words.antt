@@ -1,10 +1,13 @@
 -- The lines of the result text, from the numbers that they print.
-use Rattle.std.specs.Prelude.{ℕ, ◌-◌, ◌*◌, List, [], ◌∷◌, ℤ, codes, decimal}
+use Rattle.std.specs.Prelude.{◌≡◌, ℕ, ◌-◌, ◌*◌, ◌^◌, ◌<◌, ◌≤◌, List, [], ◌∷◌, ◌++◌, ℤ, pos, ◌-ℤ◌, Option, codes, decimal, unsigned_abs}
+use Rattle.std.specs.Option.{option_map}
 use Rattle.std.specs.Fmt.{signed_decimal}
 use Rattle.mls_model.specs.declared.lanes.LaneLine.{LaneLine}
 use Rattle.mls_model.specs.Numbers.{joined}
-use Rattle.mls_model.specs.Studies.{Sizes}
-use Rattle.mls_model.specs.ResultText.{title, kind_word}
+use Rattle.mls_model.specs.Studies.{Sizes, Study}
+use Rattle.mls_model.specs.Indices.{rho6}
+use Rattle.mls_model.specs.ResultText.{title, kind_word, index_words, power_lines, extrema_lines, exceed_lines, index_lines}
+use Rattle.mls_cov.specs.declared.martinez.IndexParts.{IndexParts}
 
 -- the end of a line
 unfoldable pub line_end : List ℕ
@@ -52,3 +55,41 @@ fields_said fields = joined (codes " fields " ∷ decimal fields ∷ [])
 -- the last line
 unfoldable pub end_words : List ℕ
 end_words = codes "end\n"
+
+-- extrema LEAST GREATEST
+unfoldable pub extrema_words : ℤ → ℤ → List ℕ
+extrema_words least greatest = joined (codes "extrema " ∷ signed_decimal least ∷ codes " " ∷ signed_decimal greatest ∷ codes "\n" ∷ [])
+
+-- the first word of an exceed line, and a number of it
+unfoldable pub exceed_start : List ℕ
+exceed_start = codes "exceed"
+
+unfoldable pub number_words : ℕ → List ℕ
+number_words n = joined (codes " " ∷ decimal n ∷ [])
+
+-- sobol NAME FIRST TOTAL cB cA vA vB vC
+unfoldable pub sobol_words : List ℕ → List ℕ → List ℕ → ℤ → ℤ → ℕ → ℕ → ℕ → List ℕ
+sobol_words name first total cov_b cov_a var_a var_b var_c = joined (codes "sobol " ∷ name ∷ codes " " ∷ first ∷ codes " " ∷ total ∷ codes " " ∷ signed_decimal cov_b ∷ codes " " ∷ signed_decimal cov_a ∷ codes " " ∷ decimal var_a ∷ codes " " ∷ decimal var_b ∷ codes " " ∷ decimal var_c ∷ codes "\n" ∷ [])
+
+-- the first and the total index, from the covariances and variances that they are made of
+abbrev pub first_of : IndexParts → Option ℤ
+first_of parts = rho6 parts.cov_b parts.var_b parts.var_c
+
+abbrev pub total_of : IndexParts → Option ℤ
+total_of parts = option_map (λ r. pos 1000000 -ℤ r) (rho6 parts.cov_a parts.var_a parts.var_c)
+
+-- the line of a parameter with this name
+abbrev pub parameter_words : List ℕ → IndexParts → List ℕ
+parameter_words name parts = sobol_words name (index_words (first_of parts)) (index_words (total_of parts)) parts.cov_b parts.cov_a parts.var_a parts.var_b parts.var_c
+
+-- what is said of a cell's statistics, from its rows
+abbrev pub statistics_text : Study → List (List ℤ) → List ℕ
+statistics_text study rs = power_lines study rs ++ (extrema_lines study rs ++ (exceed_lines study rs ++ index_lines study rs))
+
+-- the covariances and variances that sums of rows give: their squares and products are so, and they are small
+pub record AreParts (parts : IndexParts) : Type 0 where
+  pub within_b : unsigned_abs parts.cov_b * unsigned_abs parts.cov_b ≤ parts.var_b * parts.var_c
+  pub within_a : unsigned_abs parts.cov_a * unsigned_abs parts.cov_a ≤ parts.var_a * parts.var_c
+  pub small_a : parts.var_a < 2 ^ 62
+  pub small_b : parts.var_b < 2 ^ 62
+  pub small_c : parts.var_c < 2 ^ 62

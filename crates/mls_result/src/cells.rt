@@ -1,21 +1,26 @@
 //! What is said of a cell, from the sums that a rank keeps of it.
 
-ghost use Rattle.std.specs.Prelude.{◌≡◌, ℕ, ◌<◌, ◌≤◌, ◌++◌, List, [], map};
-ghost use Rattle.mls_model.specs.Studies.{planes, plane_of};
+ghost use Rattle.std.specs.Prelude.{◌≡◌, ℕ, ◌<◌, ◌≤◌, ◌++◌, ◌&&◌, List, [], length, map, nat_lt};
+ghost use Rattle.mls_model.specs.Studies.{planes, plane_of, shows};
 ghost use Rattle.mls_model.specs.Blocks.{block, width};
 ghost use Rattle.mls_model.specs.Samples.{unshifted};
 ghost use Rattle.mls_model.specs.Standing.{Table};
 ghost use Rattle.mls_model.specs.Statistics.{outputs, variance_top, third_top};
-ghost use Rattle.mls_model.specs.ResultText.{power_line, variance_line, third_line, power_lines, cell_text};
+ghost use Rattle.mls_model.specs.ResultText.{power_line, variance_line, third_line, power_lines, extrema_lines, exceed_lines, index_lines, cell_text};
 ghost use Rattle.mls_model.specs.AcceptedRows.{rows};
 ghost use Rattle.mls_model.specs.Histories.{Event};
 ghost use Rattle.mls_rank.specs.Cores.{sizes_of, rank_of as core_rank};
 ghost use Rattle.mls_rank.specs.Standing.{StandsFor as Stands};
-ghost use Rattle.mls_result.specs.Histories.{pieces_of, ShowsPowerAlone};
+ghost use Rattle.mls_result.specs.Histories.{pieces_of};
+ghost use Rattle.mls_result.specs.Words.{statistics_text};
 ghost use Rattle.mls_field.specs.Stands.{shape_of, rank_of, StandsFor};
 ghost use Rattle.mls_text.specs.Writing.{Writes};
+ghost use Rattle.mls_model.specs.declared.studies.Statistic.TheVariants.{Exceed};
 
+use crate::exceed::put_exceed_line;
+use crate::extrema::put_extrema_line;
 use crate::head::put_step;
+use crate::indices::put_sobol_lines;
 use crate::lines::{Moments, put_powers, put_third, put_variance};
 use mls_base::faults::Failed;
 use mls_base::outside::Sink;
@@ -75,6 +80,7 @@ fn put_power<O: Sink>(
     step: u32,
     cell: u32,
 ) -> Result<(), Failed>
+    requires sizes { shape_of field.now ≡ study.now.sizes }
     requires step_in { step < planes (shape_of field.now) }
     requires cell_in { cell < width (block (shape_of field.now) (rank_of field.now)) }
     ensures { (t : Table) → StandsFor field.now t → Writes result (power_lines study.now (map (map (unshifted (shape_of field.now).signed)) (t step cell))) (O.told out.old) (O.told out.new) (O.faults out.old) (O.faults out.new) }
@@ -85,7 +91,92 @@ fn put_power<O: Sink>(
     Ok(())
 }
 
-/// Writes all that is said of a cell of a rank's block, for a study that shows power alone.
+/// Writes the extrema line of a cell where the study shows it.
+fn put_extrema<O: Sink>(
+    out: &mut O,
+    study: &Study,
+    field: &Field,
+    step: u32,
+    cell: u32,
+) -> Result<(), Failed>
+    requires sizes { shape_of field.now ≡ study.now.sizes }
+    requires step_in { step < planes (shape_of field.now) }
+    requires cell_in { cell < width (block (shape_of field.now) (rank_of field.now)) }
+    ensures { (t : Table) → StandsFor field.now t → Writes result (extrema_lines study.now (map (map (unshifted (shape_of field.now).signed)) (t step cell))) (O.told out.old) (O.told out.new) (O.faults out.old) (O.faults out.new) }
+{
+    if study.shows(Statistic::Extrema) {
+        return put_extrema_line(out, &study.shape(), field, step, cell);
+    }
+    Ok(())
+}
+
+/// Whether a cell has an exceed line.
+fn has_exceed_line(study: &Study) -> bool
+    ensures { result ≡ (shows study.now Exceed && nat_lt 0 (length study.now.sizes.thresholds)) }
+{
+    study.shows(Statistic::Exceed) && study.shape().thresholds() > 0
+}
+
+/// Writes the exceed line of a cell where the study shows it and has a threshold.
+fn put_exceed<O: Sink>(
+    out: &mut O,
+    study: &Study,
+    field: &Field,
+    step: u32,
+    cell: u32,
+) -> Result<(), Failed>
+    requires sizes { shape_of field.now ≡ study.now.sizes }
+    requires step_in { step < planes (shape_of field.now) }
+    requires cell_in { cell < width (block (shape_of field.now) (rank_of field.now)) }
+    ensures { (t : Table) → StandsFor field.now t → Writes result (exceed_lines study.now (map (map (unshifted (shape_of field.now).signed)) (t step cell))) (O.told out.old) (O.told out.new) (O.faults out.old) (O.faults out.new) }
+{
+    if has_exceed_line(study) {
+        let thresholds = study.shape().thresholds();
+        return put_exceed_line(out, &field.exceed(step, cell), thresholds);
+    }
+    Ok(())
+}
+
+/// Writes the Sobol lines of a cell where the study shows them.
+fn put_indices<O: Sink>(
+    out: &mut O,
+    study: &Study,
+    field: &Field,
+    step: u32,
+    cell: u32,
+) -> Result<(), Failed>
+    requires sizes { shape_of field.now ≡ study.now.sizes }
+    requires step_in { step < planes (shape_of field.now) }
+    requires cell_in { cell < width (block (shape_of field.now) (rank_of field.now)) }
+    ensures { (t : Table) → StandsFor field.now t → Writes result (index_lines study.now (map (map (unshifted (shape_of field.now).signed)) (t step cell))) (O.told out.old) (O.told out.new) (O.faults out.old) (O.faults out.new) }
+{
+    if study.shows(Statistic::Sobol) {
+        let parameters = study.shape().parameters();
+        return put_sobol_lines(out, study, parameters, &field.martinez(step, cell));
+    }
+    Ok(())
+}
+
+/// Writes what is said of a cell's statistics.
+fn put_statistics<O: Sink>(
+    out: &mut O,
+    study: &Study,
+    field: &Field,
+    step: u32,
+    cell: u32,
+) -> Result<(), Failed>
+    requires sizes { shape_of field.now ≡ study.now.sizes }
+    requires step_in { step < planes (shape_of field.now) }
+    requires cell_in { cell < width (block (shape_of field.now) (rank_of field.now)) }
+    ensures { (t : Table) → StandsFor field.now t → Writes result (statistics_text study.now (map (map (unshifted (shape_of field.now).signed)) (t step cell))) (O.told out.old) (O.told out.new) (O.faults out.old) (O.faults out.new) }
+{
+    put_power(out, study, field, step, cell)?;
+    put_extrema(out, study, field, step, cell)?;
+    put_exceed(out, study, field, step, cell)?;
+    put_indices(out, study, field, step, cell)
+}
+
+/// Writes all that is said of a cell of a rank's block.
 pub fn put_cell<O: Sink>(
     out: &mut O,
     study: &Study,
@@ -99,7 +190,6 @@ pub fn put_cell<O: Sink>(
     requires field_in { field < study.now.sizes.fields }
     requires first { (block study.now.sizes (core_rank core.now)).first ≤ cell }
     requires end { cell < (block study.now.sizes (core_rank core.now)).end }
-    requires alone { ShowsPowerAlone study.now }
     ensures { (history : List Event) → Stands core.now history → Writes result (cell_text study.now step field cell (rows study.now.sizes (core_rank core.now) (plane_of study.now.sizes step field) cell (pieces_of study.now.sizes (core_rank core.now) history))) (O.told out.old) (O.told out.new) (O.faults out.old) (O.faults out.new) }
 {
     let shape = core.shape();
@@ -107,5 +197,5 @@ pub fn put_cell<O: Sink>(
     let place = cell - shape.block(core.rank()).first;
     let sums = core.folded();
     put_step(out, study, step, field, cell, sums.rows(plane))?;
-    put_power(out, study, sums, plane, place)
+    put_statistics(out, study, sums, plane, place)
 }

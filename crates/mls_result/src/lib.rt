@@ -2,13 +2,17 @@
 #![tactic(auto)]
 
 mod cells;
+mod exceed;
+mod extrema;
 mod fault;
 mod head;
+mod indices;
 mod lines;
 mod ranks;
 mod status;
 mod text;
 
 pub use fault::FoldFault;
+pub use ranks::write_ranks;
 pub use status::{FileRole, Part, Status};
 pub use text::write_result;

@@ -11,9 +11,9 @@ use mls_base::outside::Sink;
 use mls_field::field::Field;
 use mls_rank::RankCore;
 
-/// Writes the counts of each rank.
+/// Writes the rank lines, from the ranks' cores in order. It takes no memory. After `Failed` a front of the lines went out.
 #[tactic(auto, unfolding(mls_model::specs::ResultText::rank_lines))]
-pub fn put_ranks<O: Sink>(out: &mut O, cores: &[RankCore<Field>]) -> Result<(), Failed>
+pub fn write_ranks<O: Sink>(out: &mut O, cores: &[RankCore<Field>]) -> Result<(), Failed>
     requires { length cores.now ≤ 64 }
     ensures { Writes result (rank_lines (map counts_of cores.now)) (O.told out.old) (O.told out.new) (O.faults out.old) (O.faults out.new) }
 {

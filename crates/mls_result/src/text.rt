@@ -1,47 +1,59 @@
 //! The whole text.
 
-ghost use Rattle.std.specs.Prelude.{◌≡◌, ℕ, ◌<◌, ◌++◌, List, length, map, get_or};
+ghost use Rattle.std.specs.Prelude.{◌≡◌, ℕ, ◌<◌, ◌≤◌, List};
 ghost use Rattle.mls_model.specs.Histories.{Event};
 ghost use Rattle.mls_model.specs.ResultText.{field_text, step_text, cells_text};
-ghost use Rattle.mls_rank.specs.Cores.{sizes_of, rank_of, counts_of};
-ghost use Rattle.mls_rank.specs.Standing.{StandsFor};
+ghost use Rattle.mls_model.specs.Blocks.{block, rank_of};
 ghost use Rattle.mls_text.specs.Writing.{Writes};
-ghost use Rattle.mls_result.specs.Histories.{history_rows, history_text, ShowsPowerAlone, AreCores, AllStand};
+ghost use Rattle.mls_result.specs.Histories.{history_rows, history_text, AreCores, AllStand};
 ghost use Rattle.mls_result.specs.Words.{end_words};
 
 use crate::cells::put_cell;
 use crate::head::put_head;
 use crate::lines::put_lanes;
-use crate::ranks::put_ranks;
+use crate::ranks::write_ranks;
 use mls_base::faults::Failed;
 use mls_base::outside::Sink;
+use mls_base::shape::Shape;
 use mls_field::field::Field;
 use mls_rank::RankCore;
 use mls_study::Study;
 use mls_tape::LaneLine;
 use mls_text::put_bytes;
 
+/// The rank whose block holds a cell.
+fn rank_of_cell(shape: &Shape, cell: u32) -> u32
+    requires { cell < shape.now.cells }
+    ensures rank_in { result < shape.now.ranks }
+    ensures value { rank_of shape.now cell ≡ Some result }
+    ensures first { (block shape.now result).first ≤ cell }
+    ensures end { cell < (block shape.now result).end }
+{
+    let cells = shape.cells() as u64;
+    let ranks = shape.ranks() as u64;
+    (((cell as u64 + 1) * ranks - 1) / cells) as u32
+}
+
 /// Writes the cells of a step and a field.
 #[tactic(auto, unfolding(mls_model::specs::ResultText::field_text))]
 fn put_cells<O: Sink>(
     out: &mut O,
     study: &Study,
-    core: &RankCore<Field>,
+    cores: &[RankCore<Field>],
     step: u32,
     field: u32,
     cells: u32,
 ) -> Result<(), Failed>
-    requires sizes { sizes_of core.now ≡ study.now.sizes }
-    requires rank { rank_of core.now ≡ 0 }
-    requires one_rank { study.now.sizes.ranks ≡ 1 }
+    requires cores { AreCores study.now.sizes cores.now }
     requires step_in { step < study.now.sizes.steps }
     requires field_in { field < study.now.sizes.fields }
     requires cells { cells ≡ study.now.sizes.cells }
-    requires alone { ShowsPowerAlone study.now }
-    ensures { (histories : ℕ → List Event) → StandsFor core.now (histories 0) → Writes result (field_text study.now step field (history_rows study.now.sizes histories)) (O.told out.old) (O.told out.new) (O.faults out.old) (O.faults out.new) }
+    ensures { (histories : ℕ → List Event) → AllStand cores.now histories → Writes result (field_text study.now step field (history_rows study.now.sizes histories)) (O.told out.old) (O.told out.new) (O.faults out.old) (O.faults out.new) }
 {
+    let shape = study.shape();
     for cell in 0..cells {
-        put_cell(out, study, core, step, field, cell)?;
+        let rank = rank_of_cell(&shape, cell) as usize;
+        put_cell(out, study, &cores[rank], step, field, cell)?;
     }
     Ok(())
 }
@@ -51,22 +63,18 @@ fn put_cells<O: Sink>(
 fn put_fields<O: Sink>(
     out: &mut O,
     study: &Study,
-    core: &RankCore<Field>,
+    cores: &[RankCore<Field>],
     step: u32,
     fields: u32,
 ) -> Result<(), Failed>
-    requires sizes { sizes_of core.now ≡ study.now.sizes }
-    requires rank { rank_of core.now ≡ 0 }
-    requires one_rank { study.now.sizes.ranks ≡ 1 }
+    requires cores { AreCores study.now.sizes cores.now }
     requires step_in { step < study.now.sizes.steps }
     requires fields { fields ≡ study.now.sizes.fields }
-    requires alone { ShowsPowerAlone study.now }
-    ensures { (histories : ℕ → List Event) → StandsFor core.now (histories 0) → Writes result (step_text study.now step (history_rows study.now.sizes histories)) (O.told out.old) (O.told out.new) (O.faults out.old) (O.faults out.new) }
+    ensures { (histories : ℕ → List Event) → AllStand cores.now histories → Writes result (step_text study.now step (history_rows study.now.sizes histories)) (O.told out.old) (O.told out.new) (O.faults out.old) (O.faults out.new) }
 {
-    let shape = core.shape();
-    let cells = shape.cells();
+    let cells = study.shape().cells();
     for field in 0..fields {
-        put_cells(out, study, core, step, field, cells)?;
+        put_cells(out, study, cores, step, field, cells)?;
     }
     Ok(())
 }
@@ -76,20 +84,16 @@ fn put_fields<O: Sink>(
 fn put_steps<O: Sink>(
     out: &mut O,
     study: &Study,
-    core: &RankCore<Field>,
+    cores: &[RankCore<Field>],
     steps: u32,
 ) -> Result<(), Failed>
-    requires sizes { sizes_of core.now ≡ study.now.sizes }
-    requires rank { rank_of core.now ≡ 0 }
-    requires one_rank { study.now.sizes.ranks ≡ 1 }
+    requires cores { AreCores study.now.sizes cores.now }
     requires steps { steps ≡ study.now.sizes.steps }
-    requires alone { ShowsPowerAlone study.now }
-    ensures { (histories : ℕ → List Event) → StandsFor core.now (histories 0) → Writes result (cells_text study.now (history_rows study.now.sizes histories)) (O.told out.old) (O.told out.new) (O.faults out.old) (O.faults out.new) }
+    ensures { (histories : ℕ → List Event) → AllStand cores.now histories → Writes result (cells_text study.now (history_rows study.now.sizes histories)) (O.told out.old) (O.told out.new) (O.faults out.old) (O.faults out.new) }
 {
-    let shape = core.shape();
-    let fields = shape.fields();
+    let fields = study.shape().fields();
     for step in 0..steps {
-        put_fields(out, study, core, step, fields)?;
+        put_fields(out, study, cores, step, fields)?;
     }
     Ok(())
 }
@@ -102,8 +106,8 @@ fn put_end<O: Sink>(out: &mut O) -> Result<(), Failed>
     put_bytes(out, b"end\n")
 }
 
-/// Writes the result text of a study of one rank that shows power alone, from the ranks' cores, one for each rank in
-/// order, and the lines of its lanes. It takes no memory. After `Failed` a front of the text went out.
+/// Writes the result text of a study, from the ranks' cores, one for each rank in order, and the lines of its lanes.
+/// It takes no memory. After `Failed` a front of the text went out.
 pub fn write_result<O: Sink>(
     study: &Study,
     cores: &[RankCore<Field>],
@@ -111,15 +115,12 @@ pub fn write_result<O: Sink>(
     out: &mut O,
 ) -> Result<(), Failed>
     requires cores { AreCores study.now.sizes cores.now }
-    requires one_rank { study.now.sizes.ranks ≡ 1 }
-    requires alone { ShowsPowerAlone study.now }
     ensures { (histories : ℕ → List Event) → AllStand cores.now histories → Writes result (history_text study.now histories lanes.now) (O.told out.old) (O.told out.new) (O.faults out.old) (O.faults out.new) }
 {
-    let core = &cores[0];
-    let shape = core.shape();
+    study.valid();
     put_head(out, study)?;
-    put_ranks(out, cores)?;
+    write_ranks(out, cores)?;
     put_lanes(out, lanes)?;
-    put_steps(out, study, core, shape.steps())?;
+    put_steps(out, study, cores, study.shape().steps())?;
     put_end(out)
 }

@@ -29,7 +29,7 @@ returns-in_err-put_step g c = λ history stands.
     let place_in : place < width (block (shape_of sums) (rank_of sums)) = subst (λ b. place < width b) (sym own) inside in
     let there : StandsFor sums kept = subst (λ f. StandsFor f kept) (sym c.folded-sums.ensures.value) stands.holds.rows in
     let is_plane = c.plane-plane.ensures.value ∙ ap (λ z. plane_of z c.args.step c.args.field) c.shape-shape.ensures in
-    let text = cell_is study s rank c.args.step c.args.field c.args.cell c.plane-plane.result place c.rows.result (shape_of sums).signed history c.requires.sizes is_plane (ap (λ (b : Span). c.args.cell - b.first) is_block) (ap (λ (z : Sizes). z.signed) c.folded-sums.ensures.sizes) c.requires.first c.requires.end c.requires.alone (c.rows.ensures.table kept there place place_in) in
+    let text = cell_is study s rank c.args.step c.args.field c.args.cell c.plane-plane.result place c.rows.result (shape_of sums).signed history c.requires.sizes is_plane (ap (λ (b : Span). c.args.cell - b.first) is_block) (ap (λ (z : Sizes). z.signed) c.folded-sums.ensures.sizes) c.requires.first c.requires.end (c.rows.ensures.table kept there place place_in) in
     let P : List ℕ → Type 0 = λ t. Writes c.from_residual.result t (g.O.Sink.told c.args.out.now) (g.O.Sink.told c.put_step.new.out) (g.O.Sink.faults c.args.out.now) (g.O.Sink.faults c.put_step.new.out) in
     subst P (sym text) (failed_writes _ _ _ _ _ _ _ c.from_residual.ensures.1 (first_failed _ _ _ _ c.in_err-put_step.ensures.0) c.in_err-put_step.ensures.1)
 
@@ -51,6 +51,6 @@ returns g c = λ history stands.
     let place_in : place < width (block (shape_of sums) (rank_of sums)) = subst (λ b. place < width b) (sym own) inside in
     let there : StandsFor sums kept = subst (λ f. StandsFor f kept) (sym c.folded-sums.ensures.value) stands.holds.rows in
     let is_plane = c.plane-plane.ensures.value ∙ ap (λ z. plane_of z c.args.step c.args.field) c.shape-shape.ensures in
-    let text = cell_is study s rank c.args.step c.args.field c.args.cell c.plane-plane.result place c.rows.result (shape_of sums).signed history c.requires.sizes is_plane (ap (λ (b : Span). c.args.cell - b.first) is_block) (ap (λ (z : Sizes). z.signed) c.folded-sums.ensures.sizes) c.requires.first c.requires.end c.requires.alone (c.rows.ensures.table kept there place place_in) in
-    let P : List ℕ → Type 0 = λ t. Writes c.put_power.result t (g.O.Sink.told c.args.out.now) (g.O.Sink.told c.put_power.new.out) (g.O.Sink.faults c.args.out.now) (g.O.Sink.faults c.put_power.new.out) in
-    subst P (sym text) (writes_after _ _ _ _ _ _ _ _ _ c.in_ok-put_step.ensures.0 c.in_ok-put_step.ensures.1 (c.put_power.ensures kept there))
+    let text = cell_is study s rank c.args.step c.args.field c.args.cell c.plane-plane.result place c.rows.result (shape_of sums).signed history c.requires.sizes is_plane (ap (λ (b : Span). c.args.cell - b.first) is_block) (ap (λ (z : Sizes). z.signed) c.folded-sums.ensures.sizes) c.requires.first c.requires.end (c.rows.ensures.table kept there place place_in) in
+    let P : List ℕ → Type 0 = λ t. Writes c.put_statistics.result t (g.O.Sink.told c.args.out.now) (g.O.Sink.told c.put_statistics.new.out) (g.O.Sink.faults c.args.out.now) (g.O.Sink.faults c.put_statistics.new.out) in
+    subst P (sym text) (writes_after _ _ _ _ _ _ _ _ _ c.in_ok-put_step.ensures.0 c.in_ok-put_step.ensures.1 (c.put_statistics.ensures kept there))

@@ -1,4 +1,4 @@
-use Rattle.std.proofs.Common.{arith, ◌≡◌, ◌<◌, ◌∙◌, ap, subst, List, ℕ}
+use Rattle.std.proofs.Common.{arith, ◌≡◌, ◌<◌, ◌≤◌, ◌∙◌, ap, sym, subst, List, ℕ, length, Option, Some}
 use Rattle.std.specs.List.{flat_map}
 use Rattle.mls_base.specs.Told.{appended, WroteFront}
 use Rattle.mls_model.specs.Numbers.{below}
@@ -8,25 +8,64 @@ use Rattle.mls_rank.specs.Cores.{rank_of as core_rank}
 use Rattle.mls_text.proofs.Writing.{rose_since, failed_writes}
 use Rattle.mls_result.proofs.Loops.{number_more, number_failed, number_all}
 use Rattle.mls_result.proofs.Texts.{text_of_cell, rows_are}
+use Rattle.mls_model.specs.Studies.{Sizes}
+use Rattle.mls_model.specs.Blocks.{block, rank_of}
+use Rattle.mls_model.specs.AcceptedRows.{rows}
+use Rattle.mls_rank.specs.Cores.{sizes_of}
+use Rattle.mls_rank.specs.Standing.{StandsFor}
+use Rattle.mls_result.specs.Histories.{pieces_of}
 use Rattle.mls_result.proofs.text.put_cells.Goals as goal
+
+pub put_cell-requires-clause-sizes : goal.put_cell-requires-clause-sizes
+put_cell-requires-clause-sizes g c =
+    let in_ranks : c.rank_of_cell-rank.result < length c.args.cores.now = omega (arith, c.requires.cores.count, c.rank_of_cell-rank.ensures.rank_in, ap (λ (z : Sizes). z.ranks) c.shape-shape.ensures) in
+    ap sizes_of c.index-cores-rank.is ∙ c.requires.cores.sizes c.rank_of_cell-rank.result c.index-cores-rank.result in_ranks
+
+pub put_cell-requires-clause-first : goal.put_cell-requires-clause-first
+put_cell-requires-clause-first g c =
+    let rank = c.rank_of_cell-rank.result in
+    let in_ranks : rank < length c.args.cores.now = omega (arith, c.requires.cores.count, c.rank_of_cell-rank.ensures.rank_in, ap (λ (z : Sizes). z.ranks) c.shape-shape.ensures) in
+    let own : core_rank c.index-cores-rank.result ≡ rank = ap core_rank c.index-cores-rank.is ∙ c.requires.cores.ranks rank c.index-cores-rank.result in_ranks in
+    subst (λ r. (block c.args.study.now.sizes r).first ≤ c.loop-cell.cell) (sym own) (subst (λ z. (block z rank).first ≤ c.loop-cell.cell) c.shape-shape.ensures c.rank_of_cell-rank.ensures.first)
+
+pub put_cell-requires-clause-end : goal.put_cell-requires-clause-end
+put_cell-requires-clause-end g c =
+    let rank = c.rank_of_cell-rank.result in
+    let in_ranks : rank < length c.args.cores.now = omega (arith, c.requires.cores.count, c.rank_of_cell-rank.ensures.rank_in, ap (λ (z : Sizes). z.ranks) c.shape-shape.ensures) in
+    let own : core_rank c.index-cores-rank.result ≡ rank = ap core_rank c.index-cores-rank.is ∙ c.requires.cores.ranks rank c.index-cores-rank.result in_ranks in
+    subst (λ r. c.loop-cell.cell < (block c.args.study.now.sizes r).end) (sym own) (subst (λ z. c.loop-cell.cell < (block z rank).end) c.shape-shape.ensures c.rank_of_cell-rank.ensures.end)
 
 pub returns-in_err-put_cell : goal.returns-in_err-put_cell
 unfolding field_text
 returns-in_err-put_cell g c = λ histories stands.
     let study = c.args.study.now in
     let here : c.loop-cell.cell < study.sizes.cells = omega (arith, c.requires.cells, c.loop-cell-test.true) in
-    let same = ap (cell_text study c.args.step c.args.field c.loop-cell.cell) (rows_are study.sizes histories (core_rank c.args.core.now) (plane_of study.sizes c.args.step c.args.field) c.loop-cell.cell c.requires.one_rank c.requires.rank here) in
+    let rank = c.rank_of_cell-rank.result in
+    let core = c.index-cores-rank.result in
+    let in_ranks : rank < length c.args.cores.now = omega (arith, c.requires.cores.count, c.rank_of_cell-rank.ensures.rank_in, ap (λ (z : Sizes). z.ranks) c.shape-shape.ensures) in
+    let there : StandsFor core (histories rank) = subst (λ x. StandsFor x (histories rank)) (sym c.index-cores-rank.is) (stands.each rank core in_ranks) in
+    let own : core_rank core ≡ rank = ap core_rank c.index-cores-rank.is ∙ c.requires.cores.ranks rank core in_ranks in
+    let found : rank_of study.sizes c.loop-cell.cell ≡ Some rank = ap (λ z. rank_of z c.loop-cell.cell) (sym c.shape-shape.ensures) ∙ c.rank_of_cell-rank.ensures.value in
+    let plane = plane_of study.sizes c.args.step c.args.field in
+    let same = ap (λ r. cell_text study c.args.step c.args.field c.loop-cell.cell (rows study.sizes r plane c.loop-cell.cell (pieces_of study.sizes r (histories rank)))) own ∙ ap (cell_text study c.args.step c.args.field c.loop-cell.cell) (rows_are study.sizes histories rank plane c.loop-cell.cell found) in
     let kept = c.loop-cell.invariant histories stands in
-    let failed = number_failed (text_of_cell study c.args.step c.args.field histories) c.loop-cell.cell c.args.cells _ _ _ _ _ _ c.loop-cell-test.true kept (subst (λ t. WroteFront (g.O.Sink.told c.loop-cell.out) (g.O.Sink.told c.put_cell.new.out) t) same (c.in_err-put_cell.ensures (histories 0) stands).0) in
+    let failed = number_failed (text_of_cell study c.args.step c.args.field histories) c.loop-cell.cell c.args.cells _ _ _ _ _ _ c.loop-cell-test.true kept (subst (λ t. WroteFront (g.O.Sink.told c.loop-cell.out) (g.O.Sink.told c.put_cell.new.out) t) same (c.in_err-put_cell.ensures (histories rank) there).0) in
     let whole = subst (λ n. WroteFront (g.O.Sink.told c.args.out.now) (g.O.Sink.told c.put_cell.new.out) (flat_map (text_of_cell study c.args.step c.args.field histories) (below n))) c.requires.cells failed in
-    failed_writes _ _ _ _ _ _ _ c.from_residual.ensures.1 whole (rose_since _ _ _ kept.faultless (c.in_err-put_cell.ensures (histories 0) stands).1)
+    failed_writes _ _ _ _ _ _ _ c.from_residual.ensures.1 whole (rose_since _ _ _ kept.faultless (c.in_err-put_cell.ensures (histories rank) there).1)
 
 pub loop-cell-preserved : goal.loop-cell-preserved
 loop-cell-preserved g c = λ histories stands.
     let study = c.args.study.now in
     let here : c.loop-cell.cell < study.sizes.cells = omega (arith, c.requires.cells, c.loop-cell-test.true) in
-    let same = ap (cell_text study c.args.step c.args.field c.loop-cell.cell) (rows_are study.sizes histories (core_rank c.args.core.now) (plane_of study.sizes c.args.step c.args.field) c.loop-cell.cell c.requires.one_rank c.requires.rank here) in
-    number_more (text_of_cell study c.args.step c.args.field histories) c.loop-cell.cell c.args.cells _ _ _ _ _ _ _ c.loop-cell-test.true (c.loop-cell.invariant histories stands) ((c.in_ok-put_cell.ensures (histories 0) stands).0 ∙ ap (appended (g.O.Sink.told c.loop-cell.out)) same) (c.in_ok-put_cell.ensures (histories 0) stands).1
+    let rank = c.rank_of_cell-rank.result in
+    let core = c.index-cores-rank.result in
+    let in_ranks : rank < length c.args.cores.now = omega (arith, c.requires.cores.count, c.rank_of_cell-rank.ensures.rank_in, ap (λ (z : Sizes). z.ranks) c.shape-shape.ensures) in
+    let there : StandsFor core (histories rank) = subst (λ x. StandsFor x (histories rank)) (sym c.index-cores-rank.is) (stands.each rank core in_ranks) in
+    let own : core_rank core ≡ rank = ap core_rank c.index-cores-rank.is ∙ c.requires.cores.ranks rank core in_ranks in
+    let found : rank_of study.sizes c.loop-cell.cell ≡ Some rank = ap (λ z. rank_of z c.loop-cell.cell) (sym c.shape-shape.ensures) ∙ c.rank_of_cell-rank.ensures.value in
+    let plane = plane_of study.sizes c.args.step c.args.field in
+    let same = ap (λ r. cell_text study c.args.step c.args.field c.loop-cell.cell (rows study.sizes r plane c.loop-cell.cell (pieces_of study.sizes r (histories rank)))) own ∙ ap (cell_text study c.args.step c.args.field c.loop-cell.cell) (rows_are study.sizes histories rank plane c.loop-cell.cell found) in
+    number_more (text_of_cell study c.args.step c.args.field histories) c.loop-cell.cell c.args.cells _ _ _ _ _ _ _ c.loop-cell-test.true (c.loop-cell.invariant histories stands) ((c.in_ok-put_cell.ensures (histories rank) there).0 ∙ ap (appended (g.O.Sink.told c.loop-cell.out)) same) (c.in_ok-put_cell.ensures (histories rank) there).1
 
 pub returns : goal.returns
 unfolding field_text

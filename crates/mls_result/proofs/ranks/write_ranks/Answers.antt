@@ -4,7 +4,7 @@ use Rattle.mls_base.specs.Told.{appended, WroteFront}
 use Rattle.mls_rank.specs.Cores.{counts_of}
 use Rattle.mls_text.proofs.Writing.{rose_since, failed_writes}
 use Rattle.mls_result.proofs.RankLines.{rank_more, rank_failed, ranks_all}
-use Rattle.mls_result.proofs.ranks.put_ranks.Goals as goal
+use Rattle.mls_result.proofs.ranks.write_ranks.Goals as goal
 
 pub returns-in_err-put_rank : goal.returns-in_err-put_rank
 unfolding rank_lines
