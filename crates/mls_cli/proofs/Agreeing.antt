@@ -6,6 +6,7 @@ use Rattle.mls_model.specs.Lanes.{Lane}
 use Rattle.mls_model.specs.Schedules.{plain}
 use Rattle.mls_model.specs.ResultText.{result_text}
 use Rattle.mls_model.specs.WatchText.{watch_text}
+use Rattle.mls_model.specs.Designs.{design_text}
 use Rattle.mls_model.specs.Studies.{Study}
 use Rattle.mls_launch.specs.Writing.{WritesOut}
 use Rattle.mls_launch.specs.declared.faults.OutFault.{OutFault}
@@ -18,10 +19,10 @@ use Rattle.mls_result.specs.declared.status.Status.TheVariants as status
 use Rattle.mls_cli.specs.declared.words.Words.{Words}
 use Rattle.mls_cli.specs.declared.steps.Refusal.{Refusal}
 use Rattle.mls_cli.specs.declared.steps.Refusal.TheVariants as refusal
-use Rattle.mls_cli.specs.Answers.{Answers, fold_status, watch_status}
+use Rattle.mls_cli.specs.Answers.{Answers, fold_status, out_status}
 use Rattle.mls_cli.specs.Words.{words_of}
-use Rattle.mls_cli.specs.Ideal.{◌>>=◌, command_or_usage, right_study, right_fold_study, right_lanes, right_events, right_fold, right_watch, right_command, ideal}
-use Rattle.mls_cli.specs.Refusals.{IsRefused, Agrees}
+use Rattle.mls_cli.specs.Ideal.{◌>>=◌, command_or_usage, right_study, right_fold_study, right_lanes, right_events, right_fold, right_design, right_watch, right_command, ideal}
+use Rattle.mls_cli.specs.Refusals.{status_of, IsRefused, Agrees}
 
 -- a refusal of the first step is one of both
 pub refused_first : {A B : Type 0} (r : Refusal) (right : Result A Status) (next : A → Result B Status) → IsRefused r right → IsRefused r (right >>= next)
@@ -67,6 +68,25 @@ pub watch_of : (held : Names) (study_name events_name : List ℕ) (study : Study
 unfolding right_watch
 watch_of held study_name events_name study events first second = rw (first, second) refl
 
+-- ---- the file of a design
+
+refused_answers : (r : Refusal) (right : Result (List ℕ) Status) (old : Option (List ℕ)) → IsRefused r right → Answers right old old (status_of r)
+refused_answers refusal.ReadFault right old is = refl
+refused_answers refusal.Memory right old is = refl
+refused_answers (refusal.Study fault) right old is = (is, refl)
+refused_answers (refusal.Tape at why) right old is = (is, refl)
+refused_answers (refusal.NotBuilt part) right old is = (is, refl)
+refused_answers (refusal.TooLong file) right old is = (is, refl)
+refused_answers (refusal.Events line) right old is = (is, refl)
+
+pub design_refused : (held : Names) (study_name : List ℕ) (r : Refusal) (old : Option (List ℕ)) → IsRefused r (right_study held study_name) → Answers (right_design held study_name) old old (status_of r)
+unfolding right_design
+design_refused held study_name r old is = refused_answers r _ old (refused_first r (right_study held study_name) _ is)
+
+pub design_is : (held : Names) (study_name : List ℕ) (study : Study) → right_study held study_name ≡ Ok study → right_design held study_name ≡ Ok (design_text study)
+unfolding right_design
+design_is held study_name study first = rw (first) refl
+
 -- ---- what a command answers
 
 -- a fold that went so answers so
@@ -79,15 +99,15 @@ folded right text old new before now A (Err WriteFault) is f =
     subst P (sym is) f.0
 folded right text old new before now A (Err Memory) is f = f.0
 
--- a watch that went so answers so
-pub watched : (right : Result (List ℕ) Status) (text : List ℕ) (old new : Option (List ℕ)) (before now : ℕ) (A : Type 0) (answer : Result A OutFault) → right ≡ Ok text → WritesOut answer text old new before now → Answers right old new (watch_status answer)
-watched right text old new before now A (Ok done) is f =
+-- a text that was made and written so answers so
+pub wrote_out : (right : Result (List ℕ) Status) (text : List ℕ) (old new : Option (List ℕ)) (before now : ℕ) (A : Type 0) (answer : Result A OutFault) → right ≡ Ok text → WritesOut answer text old new before now → Answers right old new (out_status answer)
+wrote_out right text old new before now A (Ok done) is f =
     let P : Result (List ℕ) Status → Type 0 = λ o. Answers o old new status.Done in
     subst P (sym is) f.0
-watched right text old new before now A (Err out.WriteFault) is f =
+wrote_out right text old new before now A (Err out.WriteFault) is f =
     let P : Result (List ℕ) Status → Type 0 = λ o. Answers o old new status.WriteFault in
     subst P (sym is) f.0
-watched right text old new before now A (Err out.Memory) is f = f.0
+wrote_out right text old new before now A (Err out.Memory) is f = f.0
 
 -- words that are no command
 pub answers_usage : (held : Names) (words : List (List ℕ)) (old : Option (List ℕ)) → words_of words ≡ None → Answers (ideal held words) old old status.Usage

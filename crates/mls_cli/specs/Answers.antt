@@ -50,8 +50,8 @@ fold_status (Ok done) = status.Done
 fold_status (Err WriteFault) = status.WriteFault
 fold_status (Err Memory) = status.Memory
 
--- and after a watch
-abbrev pub watch_status : {A : Type 0} → Result A OutFault → Status
-watch_status (Ok done) = status.Done
-watch_status (Err out.WriteFault) = status.WriteFault
-watch_status (Err out.Memory) = status.Memory
+-- and after a text that is made in memory and then written
+abbrev pub out_status : {A : Type 0} → Result A OutFault → Status
+out_status (Ok done) = status.Done
+out_status (Err out.WriteFault) = status.WriteFault
+out_status (Err out.Memory) = status.Memory

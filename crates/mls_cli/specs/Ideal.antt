@@ -1,13 +1,13 @@
 -- What is right: the text that a command writes, or its refusal, from the files that are held.
-use Rattle.std.specs.Prelude.{ℕ, not, ◌||◌, cond, List, length, Option, Some, None, Result, Ok, Err, nat_lt, ◌==◌}
+use Rattle.std.specs.Prelude.{ℕ, cond, List, length, Option, Some, None, Result, Ok, Err, nat_lt, ◌==◌}
 use Rattle.mls_base.specs.Told.{Names}
 use Rattle.mls_model.specs.declared.launcher.Event.{Event}
-use Rattle.mls_model.specs.declared.studies.Statistic.TheVariants.{Extrema, Exceed, Sobol}
-use Rattle.mls_model.specs.Studies.{Study, shows}
+use Rattle.mls_model.specs.Studies.{Study}
 use Rattle.mls_model.specs.Lanes.{Lane, TapeRefusal, tape_of}
 use Rattle.mls_model.specs.Schedules.{plain}
 use Rattle.mls_model.specs.ResultText.{result_text}
 use Rattle.mls_model.specs.WatchText.{watch_text}
+use Rattle.mls_model.specs.Designs.{design_text}
 use Rattle.mls_study.specs.declared.fault.StudyFault.{StudyFault}
 use Rattle.mls_study.specs.StudyFile.{study_of}
 use Rattle.mls_launch.specs.EventReading.{events_of}
@@ -57,13 +57,9 @@ events_answer (Err line) = Err (status.Events line)
 abbrev pub not_built : {A : Type 0} → Part → Result A Status
 not_built p = Err (status.NotBuilt p)
 
--- a study of one rank and one client that shows power alone
+-- a study of one client
 abbrev pub built_study : Study → Result Study Status
-built_study study =
-    cond (not (study.sizes.ranks == 1)) (not_built part.Ranks)
-    (cond (not (study.sizes.clients == 1)) (not_built part.Clients)
-    (cond (shows study Extrema || (shows study Exceed || shows study Sobol)) (not_built part.Statistics)
-    (Ok study)))
+built_study study = cond (study.sizes.clients == 1) (Ok study) (not_built part.Clients)
 
 -- a tape without saves and crashes on control lanes
 abbrev pub built_tape : List Lane → Result (List Lane) Status
@@ -104,6 +100,10 @@ right_fold files study_name tape_name = do
   lanes ← right_lanes files study tape_name
   Ok (result_text study lanes (plain study.sizes.ranks lanes))
 
+-- the text of a design
+unfoldable pub right_design : Names → (study : List ℕ) → Result (List ℕ) Status
+right_design files study_name = right_study files study_name >>= (λ study. Ok (design_text study))
+
 -- the text of a watch
 unfoldable pub right_watch : Names → (study events : List ℕ) → Result (List ℕ) Status
 right_watch files study_name events_name = do
@@ -116,7 +116,7 @@ abbrev pub right_command : Names → Words → Result (List ℕ) Status
 right_command files (words.Fold study tape None) = right_fold files study tape
 right_command files (words.Fold study tape (Some schedule)) = not_built part.Schedule
 right_command files (words.Watch study events) = right_watch files study events
-right_command files (words.Design study) = not_built part.Command
+right_command files (words.Design study) = right_design files study
 right_command files (words.Trial study number saved) = not_built part.Command
 right_command files (words.Bins study tape schedule) = not_built part.Command
 right_command files (words.Export study prefix) = not_built part.Command

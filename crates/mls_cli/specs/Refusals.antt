@@ -2,7 +2,6 @@
 use Rattle.std.specs.Prelude.{◌≡◌, ℕ, Result, Ok, Err, ⊤}
 use Rattle.mls_base.specs.Told.{Rose}
 use Rattle.mls_model.specs.Studies.{Study}
-use Rattle.mls_result.specs.Histories.{ShowsPowerAlone}
 use Rattle.mls_result.specs.declared.status.Status.{Status}
 use Rattle.mls_result.specs.declared.status.Status.TheVariants as status
 use Rattle.mls_study.specs.declared.fault.StudyFault.{StudyFault}
@@ -60,8 +59,6 @@ abbrev pub study_refusal : StudyFault → Refusal
 study_refusal study.Memory = refusal.Memory
 study_refusal fault = refusal.Study fault
 
--- a study of one rank and one client that shows power alone
-pub record IsBuilt (study : Study) : Type 0 where
-  pub one_rank : study.sizes.ranks ≡ 1
-  pub one_client : study.sizes.clients ≡ 1
-  pub power_alone : ShowsPowerAlone study
+-- a study of one client
+abbrev pub IsBuilt : Study → Type 0
+IsBuilt study = study.sizes.clients ≡ 1

@@ -10,6 +10,7 @@ ghost use Rattle.mls_cli.specs.Words.{words_of};
 ghost use Rattle.mls_cli.specs.Ideal.{right_command, ideal};
 ghost use Rattle.mls_cli.specs.Answers.{Answers, Exactly, IsQuiet, IsRight};
 
+use crate::design::run_design;
 use crate::fold::run_fold;
 use crate::watch::run_watch;
 use crate::words::{Words, WordsFault, read_words};
@@ -51,11 +52,11 @@ fn carry_out<F: Files, O: Sink, K: Keeper + Drop>(
             let status = run_watch(alloc, study.as_str(), events.as_str(), files, out);
             return (status, keepers);
         }
-        Words::Design { .. }
-        | Words::Trial { .. }
-        | Words::Bins { .. }
-        | Words::Export { .. }
-        | Words::Resume { .. } => {
+        Words::Design { study } => {
+            let status = run_design(alloc, study.as_str(), files, out);
+            return (status, keepers);
+        }
+        Words::Trial { .. } | Words::Bins { .. } | Words::Export { .. } | Words::Resume { .. } => {
             let part = Part::Command;
             return (Status::NotBuilt { part }, keepers);
         }

@@ -2,6 +2,7 @@
 #![tactic(auto)]
 
 mod commands;
+mod design;
 mod fold;
 mod program;
 mod steps;

@@ -2,19 +2,18 @@
 
 ghost use Rattle.std.specs.Prelude.{◌≡◌, ◌≤◌, ◌||◌, length, true, Some, Ok, Err, IfOk, IfErr, OnOk, MatchOption, MatchResult, vec_len, ⊤};
 ghost use Rattle.mls_base.specs.Told.{Names};
-ghost use Rattle.mls_model.specs.declared.studies.Statistic.TheVariants.{Extrema, Exceed, Sobol};
-ghost use Rattle.mls_model.specs.Studies.{shows};
 ghost use Rattle.mls_result.specs.declared.status.Status.TheVariants as status;
 ghost use Rattle.mls_replay.specs.Calm.{is_calm};
 ghost use Rattle.mls_cli.specs.Ideal.{limited, right_study, right_fold_study, right_lanes, right_events, built_study, built_tape, content_study, content_lanes, content_events};
+ghost use Rattle.mls_cli.specs.Answers.{out_status};
 ghost use Rattle.mls_cli.specs.Refusals.{status_of, study_refusal, Agrees, Counts, IsOfContent, IsBuilt};
 
 use mls_base::faults::LoadFault;
 use mls_base::outside::Files;
-use mls_launch::{Event, EventFault, read_events};
+use mls_launch::{Event, EventFault, OutFault, read_events};
 use mls_replay::is_calm;
 use mls_result::{FileRole, Part, Status};
-use mls_study::{Statistic, Study, StudyFault, read_study};
+use mls_study::{Study, StudyFault, read_study};
 use mls_tape::{Tape, TapeFault, TapeWhy};
 use std::alloc::Global;
 
@@ -61,6 +60,17 @@ pub(crate) fn into_status(refusal: Refusal) -> Status
     }
 }
 
+/// What a command answers after its text was made in memory and written.
+pub(crate) fn out_status(answer: Result<(), OutFault>) -> Status
+    ensures { result ≡ out_status answer }
+{
+    match answer {
+        Ok(()) => Status::Done,
+        Err(OutFault::WriteFault) => Status::WriteFault,
+        Err(OutFault::Memory) => Status::Memory,
+    }
+}
+
 /// The bytes of a name, at most `max` of them.
 fn load<F: Files>(
     alloc: Global,
@@ -83,37 +93,6 @@ fn load<F: Files>(
     }
 }
 
-/// Whether the study shows other statistics than `power`.
-fn shows_more(study: &Study) -> bool
-    ensures { result ≡ (shows study.now Extrema || (shows study.now Exceed || shows study.now Sobol)) }
-{
-    if study.shows(Statistic::Extrema) {
-        return true;
-    }
-    if study.shows(Statistic::Exceed) {
-        return true;
-    }
-    study.shows(Statistic::Sobol)
-}
-
-/// The first part of the study that is not built yet.
-fn missing_part(study: &Study) -> Option<Part>
-    ensures right { MatchOption result (built_study study.now ≡ Ok study.now) (λ part. built_study study.now ≡ Err (status.NotBuilt part)) }
-    ensures built { MatchOption result (IsBuilt study.now) (λ _. ⊤) }
-{
-    let shape = study.shape();
-    if shape.ranks() != 1 {
-        return Some(Part::Ranks);
-    }
-    if shape.clients() != 1 {
-        return Some(Part::Clients);
-    }
-    if shows_more(study) {
-        return Some(Part::Statistics);
-    }
-    None
-}
-
 /// How a command is refused whose study has this fault.
 fn study_refusal(fault: StudyFault) -> Refusal
     ensures { result ≡ study_refusal fault }
@@ -130,10 +109,12 @@ fn if_built(study: Study) -> Result<Study, Refusal>
     ensures built { IfOk result IsBuilt }
     ensures content { IfErr result IsOfContent }
 {
-    match missing_part(&study) {
-        Some(part) => return Err(Refusal::NotBuilt { part }),
-        None => return Ok(study),
+    if study.shape().clients() == 1 {
+        return Ok(study);
     }
+    Err(Refusal::NotBuilt {
+        part: Part::Clients,
+    })
 }
 
 /// The study in these bytes.

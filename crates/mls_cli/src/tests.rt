@@ -136,6 +136,21 @@ fn answer_of(
     Ok((status, Vec::from_slice(alloc, sink.bytes())?))
 }
 
+/// The same of a fold whose study lies under a name.
+fn fold_named(
+    alloc: Global,
+    name: &str,
+    study: &[u8],
+    tape: &[u8],
+    fails: Vec<u64>,
+    room: u64,
+) -> Result<(u8, Vec<u8>), AllocError> {
+    let named = [(name, study), ("tape", tape)];
+    let words = ["fold", "study", "tape"];
+    let (status, bytes) = answer_of(alloc, &words, &named, fails, room)?;
+    Ok((status.number(), bytes))
+}
+
 /// The number of a fold's status over these bytes and what a sink of so much room holds then.
 fn fold_of(
     alloc: Global,
@@ -143,10 +158,7 @@ fn fold_of(
     tape: &[u8],
     room: u64,
 ) -> Result<(u8, Vec<u8>), AllocError> {
-    let named = [("study", study), ("tape", tape)];
-    let words = ["fold", "study", "tape"];
-    let (status, bytes) = answer_of(alloc, &words, &named, Vec::new(alloc), room)?;
-    Ok((status.number(), bytes))
+    fold_named(alloc, "study", study, tape, Vec::new(alloc), room)
 }
 
 const TWO_GROUPS_TEXT: &[u8] =
@@ -349,12 +361,17 @@ fn files_fail_and_are_too_long(rt: HostRuntime) {
     let alloc = rt.alloc();
     let lane = joined(alloc, &[FIRST, SECOND]).expect(&rt, "memory");
     let tape = tape_of(alloc, HEAD, lane.as_slice()).expect(&rt, "memory");
-    let words = ["fold", "study", "tape"];
-    let named = [("study", STUDY), ("tape", tape.as_slice())];
     for call in 0..2_u64 {
         let fails = vec![in alloc; call].expect(&rt, "memory");
-        let (status, bytes) = answer_of(alloc, &words, &named, fails, 1000).expect(&rt, "memory");
-        assert!(rt; status.number() == 5 && bytes.is_empty(), "{call}");
+        let (number, bytes) = fold_named(
+            alloc,
+            "study",
+            STUDY,
+            tape.as_slice(),
+            fails,
+            1000,
+        ).expect(&rt, "memory");
+        assert!(rt; number == 5 && bytes.is_empty(), "{call}");
     }
     let mut long = Vec::new(alloc);
     for _ in 0..65_537_u32 {
@@ -365,12 +382,12 @@ fn files_fail_and_are_too_long(rt: HostRuntime) {
         ("study", long.get(1..).unwrap_or(&[]), 2),
         ("other", STUDY, 5),
     ];
-    for (name, study, number) in cases {
-        let named = [(name, study), ("tape", tape.as_slice())];
-        let (status, bytes) = answer_of(alloc, &words, &named, Vec::new(alloc), 1000).expect(
+    for (name, study, status) in cases {
+        let none = Vec::new(alloc);
+        let (number, bytes) = fold_named(alloc, name, study, tape.as_slice(), none, 1000).expect(
             &rt, "memory",
         );
-        assert!(rt; status.number() == number && bytes.is_empty(), "{number}");
+        assert!(rt; number == status && bytes.is_empty(), "{status}");
     }
 }
 
@@ -387,7 +404,7 @@ fn words_are_commands(rt: HostRuntime) {
         (&["folds", "s", "t"], 1),
         (&["fold", "s", "t", "u"], 10),
         (&["fold", "s", "t"], 5),
-        (&["design", "s"], 10),
+        (&["design", "s"], 5),
         (&["design", "s", "t"], 1),
         (&["trial", "s", "07"], 1),
         (&["trial", "s", "1", "t"], 1),
@@ -475,6 +492,36 @@ fn events_are_watched(rt: HostRuntime) {
     }
 }
 
+const WIDE: &[u8] =
+    b"cells = 1\nsteps = 1\ngroups = 2\nseed = 42\n[[parameters]]\nname = \"x\"\nlow = 0\nhigh = 4294967295\n";
+
+const WIDE_TEXT: &[u8] =
+    b"melissa-design 1\ngroup 0 sim 0 2707161783\ngroup 0 sim 1 2068313097\ngroup 0 sim 2 2068313097\ngroup 1 sim 0 3122475824\ngroup 1 sim 1 2211639955\ngroup 1 sim 2 2211639955\nend\n";
+
+#[test]
+fn designs_are_printed(rt: HostRuntime) {
+    let alloc = rt.alloc();
+    let cases = [
+        (WIDE, 1000, 0, WIDE_TEXT),
+        (WIDE, 20, 6, b"melissa-design 1\ngro".as_slice()),
+        (b"", 1000, 2, b""),
+    ];
+    for (study, room, number, text) in cases {
+        let named = [("study", study)];
+        let (status, bytes) = answer_of(
+            alloc,
+            &["design", "study"],
+            &named,
+            Vec::new(alloc),
+            room,
+        ).expect(&rt, "memory");
+        assert!(rt;
+            status.number() == number && bytes.as_slice() == text,
+            "{number}"
+        );
+    }
+}
+
 #[test]
 fn statuses_have_texts(rt: HostRuntime) {
     let alloc = rt.alloc();
@@ -531,7 +578,12 @@ fn statuses_have_texts(rt: HostRuntime) {
         (Status::ReadFault, "cannot read"),
         (Status::WriteFault, "cannot write"),
         (Status::Memory, "out of memory"),
-        (Status::NotBuilt { part: Part::Ranks }, "not built yet"),
+        (
+            Status::NotBuilt {
+                part: Part::Clients,
+            },
+            "not built yet",
+        ),
         (
             Status::TooLong {
                 file: FileRole::Events,

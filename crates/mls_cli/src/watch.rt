@@ -5,10 +5,10 @@ ghost use Rattle.mls_base.specs.Told.{Names, Rose};
 ghost use Rattle.mls_model.specs.WatchText.{watch_text};
 ghost use Rattle.mls_launch.specs.Writing.{WritesOut};
 ghost use Rattle.mls_cli.specs.Ideal.{right_watch};
-ghost use Rattle.mls_cli.specs.Answers.{Answers, IsQuiet, watch_status};
+ghost use Rattle.mls_cli.specs.Answers.{Answers, IsQuiet};
 ghost use Rattle.mls_cli.specs.Refusals.{Counts, IsRefused};
 
-use crate::steps::{Refusal, into_status, load_events, load_study};
+use crate::steps::{Refusal, into_status, load_events, load_study, out_status};
 use mls_base::outside::{Files, Sink};
 use mls_launch::{Event, OutFault, write_watch};
 use mls_result::Status;
@@ -48,17 +48,6 @@ fn write_inputs<O: Sink>(alloc: Global, inputs: &WatchInputs, out: &mut O) -> Re
     write_watch(alloc, &shape, inputs.events.as_slice(), out)
 }
 
-/// What the command answers after a watch.
-fn watch_status(answer: Result<(), OutFault>) -> Status
-    ensures { result ≡ watch_status answer }
-{
-    match answer {
-        Ok(()) => Status::Done,
-        Err(OutFault::WriteFault) => Status::WriteFault,
-        Err(OutFault::Memory) => Status::Memory,
-    }
-}
-
 /// Prints a launcher's decisions over the events of a name.
 pub(crate) fn run_watch<F: Files, O: Sink>(
     alloc: Global,
@@ -77,7 +66,7 @@ pub(crate) fn run_watch<F: Files, O: Sink>(
     match load_inputs(alloc, files, study_name, events_name) {
         Ok(inputs) => {
             let answer = write_inputs(alloc, &inputs, out);
-            return watch_status(answer);
+            return out_status(answer);
         }
         Err(refusal) => return into_status(refusal),
     }

@@ -1,8 +1,11 @@
--- One core for the one rank, the lanes' lines, and the text of both.
-use Rattle.std.proofs.Common.{◌≡◌, List, ℕ, zero, suc, [], ◌∷◌, ◌++◌, ◌+◌, ◌<◌, ◌≤◌, length, map, take, get_or, Option, Some, None, refl, sym, ◌∙◌, ap, subst, arith, add-one, take-suc}
+-- The ranks' cores one after another, the lanes' lines, and the text of both.
+use Rattle.std.proofs.Common.{◌≡◌, List, ℕ, zero, suc, [], ◌∷◌, ◌++◌, ◌+◌, ◌<◌, ◌≤◌, length, map, take, get_or, Option, Some, None, refl, sym, ◌∙◌, ap, subst, inl, inr, arith, add-one, take-suc, length-append}
 use Rattle.std.specs.Prelude.{IfSome, unwrap_or}
 use Rattle.std.specs.List.{enumerate_from}
+use Rattle.std.proofs.lemmas.Bool.{cases_lt}
 use Rattle.std.proofs.lemmas.List.{take_all}
+use Rattle.std.proofs.Math.ListN.{get_or-append}
+use Rattle.std.proofs.Math.Seq.{get_or-append_seam}
 use Rattle.mls_field.specs.declared.fold.RowFold.{Ghosts}
 use Rattle.mls_model.specs.declared.lanes.LaneLine.{LaneLine}
 use Rattle.mls_model.specs.Numbers.{element}
@@ -16,24 +19,45 @@ use Rattle.mls_rank.specs.Standing.{StandsFor}
 use Rattle.mls_result.specs.Histories.{AreCores, AllStand, history_text}
 use Rattle.mls_replay.specs.Folding.{order_of, histories_of}
 
--- the one core of the one rank
-pub one_core : {F : Type 0} {T : Ghosts F} (s : Sizes) (core : RankCore F T) → s.ranks ≡ 1 → sizes_of core ≡ s → rank_of core ≡ 0 → AreCores s (core ∷ [])
-one_core {F} {T} s core one is_sizes is_rank = record { count = sym one; sizes = at_sizes; ranks = at_ranks }
-  where
-    at_sizes : (rank : ℕ) (d : RankCore F T) → rank < 1 → sizes_of (get_or (core ∷ []) rank d) ≡ s
-    at_sizes zero d here = is_sizes
-    at_sizes (suc n) d here = absurd (omega arith)
+-- The first n cores: one for each of the first n ranks, in order, each standing for its rank's history.
+pub record AreFirst {F : Type 0} {T : Ghosts F} (s : Sizes) (histories : ℕ → List Event) (n : ℕ) (cores : List (RankCore F T)) : Type 0 where
+  pub count : length cores ≡ n
+  pub sizes : (rank : ℕ) (d : RankCore F T) → rank < n → sizes_of (get_or cores rank d) ≡ s
+  pub ranks : (rank : ℕ) (d : RankCore F T) → rank < n → rank_of (get_or cores rank d) ≡ rank
+  pub stand : (rank : ℕ) (d : RankCore F T) → rank < n → StandsFor (get_or cores rank d) (histories rank)
 
-    at_ranks : (rank : ℕ) (d : RankCore F T) → rank < 1 → rank_of (get_or (core ∷ []) rank d) ≡ rank
-    at_ranks zero d here = is_rank
-    at_ranks (suc n) d here = absurd (omega arith)
+pub none_yet : {F : Type 0} {T : Ghosts F} (s : Sizes) (histories : ℕ → List Event) (cores : List (RankCore F T)) → cores ≡ [] → AreFirst s histories 0 cores
+none_yet {F} {T} s histories cores empty = subst (AreFirst s histories 0) (sym empty) (record { count = refl; sizes = λ rank d here. absurd (omega (arith, here)); ranks = λ rank d here. absurd (omega (arith, here)); stand = λ rank d here. absurd (omega (arith, here)) })
 
-pub one_stands : {F : Type 0} {T : Ghosts F} (core : RankCore F T) (histories : ℕ → List Event) → StandsFor core (histories 0) → AllStand (core ∷ []) histories
-one_stands {F} {T} core histories stands = record { each = at_each }
-  where
-    at_each : (rank : ℕ) (d : RankCore F T) → rank < 1 → StandsFor (get_or (core ∷ []) rank d) (histories rank)
-    at_each zero d here = stands
-    at_each (suc n) d here = absurd (omega arith)
+-- what holds of each of the first n and of the next holds of each of them
+each_more : {C : Type 0} (P : ℕ → C → Type 0) (cores : List C) (core : C) (n : ℕ) → length cores ≡ n → ((rank : ℕ) (d : C) → rank < n → P rank (get_or cores rank d)) → P n core → (rank : ℕ) (d : C) → rank < n + 1 → P rank (get_or (cores ++ core ∷ []) rank d)
+each_more {C} P cores core n count first next rank d here = elim (cases_lt rank n) [
+  | inl lt ↦ subst (P rank) (sym (get_or-append cores (core ∷ []) d rank (omega (arith, count, lt)))) (first rank d lt)
+  | inr le ↦
+      let at : rank ≡ length cores = omega (arith, count, le, here) in
+      let is_core : get_or (cores ++ core ∷ []) rank d ≡ core = ap (λ k. get_or (cores ++ core ∷ []) k d) at ∙ get_or-append_seam cores core [] d in
+      let own : n ≡ rank = omega (arith, le, here) in
+      subst (P rank) (sym is_core) (subst (λ k. P k core) own next)
+]
+
+pub one_more : {F : Type 0} {T : Ghosts F} (s : Sizes) (histories : ℕ → List Event) (n : ℕ) (cores cores' : List (RankCore F T)) (core : RankCore F T) → AreFirst s histories n cores → cores' ≡ cores ++ core ∷ [] → sizes_of core ≡ s → rank_of core ≡ n → StandsFor core (histories n) → AreFirst s histories (n + 1) cores'
+one_more {F} {T} s histories n cores cores' core first pushed is_sizes is_rank stands = subst (AreFirst s histories (n + 1)) (sym pushed) (record {
+  count = omega (arith, first.count, length-append cores (core ∷ []));
+  sizes = each_more (λ rank c. sizes_of c ≡ s) cores core n first.count first.sizes is_sizes;
+  ranks = each_more (λ rank c. rank_of c ≡ rank) cores core n first.count first.ranks is_rank;
+  stand = each_more (λ rank c. StandsFor c (histories rank)) cores core n first.count first.stand stands;
+})
+
+-- the first of as many as there are ranks are all
+pub all_cores : {F : Type 0} {T : Ghosts F} (s : Sizes) (histories : ℕ → List Event) (n : ℕ) (cores : List (RankCore F T)) → AreFirst s histories n cores → n ≡ s.ranks → AreCores s cores
+all_cores {F} {T} s histories n cores first all = record {
+  count = first.count ∙ all;
+  sizes = λ rank d here. first.sizes rank d (omega (arith, here, first.count));
+  ranks = λ rank d here. first.ranks rank d (omega (arith, here, first.count));
+}
+
+pub all_stand : {F : Type 0} {T : Ghosts F} (s : Sizes) (histories : ℕ → List Event) (n : ℕ) (cores : List (RankCore F T)) → AreFirst s histories n cores → AllStand cores histories
+all_stand {F} {T} s histories n cores first = record { each = λ rank d here. first.stand rank d (omega (arith, here, first.count)) }
 
 -- the history of a rank whose list is known
 pub history_is : (lanes : List Lane) (orders : List (List ℕ)) (rank : ℕ) (order : List ℕ) → element orders rank ≡ Some order → histories_of lanes orders rank ≡ history lanes order

@@ -3,7 +3,7 @@
 ghost use Rattle.std.specs.Prelude.{◌≡◌, ℕ, ◌<◌, ◌≤◌, ◌+◌, List, [], length, get_or, vec_len, true, IfOk, IfErr};
 ghost use Rattle.mls_model.specs.Schedules.{is_legal};
 ghost use Rattle.mls_model.specs.ResultText.{result_text, lines_of};
-ghost use Rattle.mls_result.specs.Histories.{ShowsPowerAlone, AreCores, AllStand};
+ghost use Rattle.mls_result.specs.Histories.{AreCores, AllStand};
 ghost use Rattle.mls_replay.specs.Calm.{is_calm};
 ghost use Rattle.mls_replay.specs.Folding.{Folds, order_of, histories_of};
 
@@ -24,7 +24,6 @@ fn run_ranks(
     tape: &Tape,
     schedule: &Schedule,
 ) -> Result<Vec<RankCore<Field>>, NoMemory>
-    requires one_rank { study.now.sizes.ranks ≡ 1 }
     requires one_client { study.now.sizes.clients ≡ 1 }
     requires legal { is_legal study.now.sizes.ranks tape.now.lanes schedule.now ≡ true }
     requires calm { is_calm tape.now.lanes ≡ true }
@@ -32,9 +31,11 @@ fn run_ranks(
     ensures stand { IfOk result (λ cores. AllStand cores.items (histories_of tape.now.lanes schedule.now)) }
 {
     let shape = study.shape();
-    let core = run_rank(alloc, &shape, tape, 0, schedule.order(0))?;
-    let mut cores = Vec::new(alloc);
-    cores.push(core)?;
+    let mut cores = Vec::with_capacity(alloc, shape.ranks() as usize)?;
+    for rank in 0..shape.ranks() {
+        let core = run_rank(alloc, &shape, tape, rank, schedule.order(rank))?;
+        cores.push(core)?;
+    }
     Ok(cores)
 }
 
@@ -59,7 +60,6 @@ pub fn fold_cores<K: Keeper + Drop>(
     keepers: Vec<K>,
 ) -> (Result<Vec<RankCore<Field>>, FoldFault>, Vec<K>)
     requires keepers { vec_len keepers ≡ 64 }
-    requires one_rank { study.now.sizes.ranks ≡ 1 }
     requires one_client { study.now.sizes.clients ≡ 1 }
     requires legal { is_legal study.now.sizes.ranks tape.now.lanes schedule.now ≡ true }
     requires calm { is_calm tape.now.lanes ≡ true }
@@ -83,8 +83,6 @@ fn write_cores<O: Sink>(
     lines: &[LaneLine],
     out: &mut O,
 ) -> Result<(), FoldFault>
-    requires one_rank { study.now.sizes.ranks ≡ 1 }
-    requires alone { ShowsPowerAlone study.now }
     requires cores { AreCores study.now.sizes cores.now }
     requires stand { AllStand cores.now (histories_of tape.now.lanes schedule.now) }
     requires lines { lines.now ≡ lines_of tape.now.lanes }
@@ -99,7 +97,7 @@ fn write_cores<O: Sink>(
 /// Folds a tape under a schedule and writes the result text: each rank runs over its whole list, in rising number, and then
 /// the text is written. Each keeper comes back in its place; none is called, since the tape holds no save and no crash.
 ///
-/// This form is for studies of one rank and one client that show power alone.
+/// This form is for studies of one client.
 pub fn fold<K: Keeper + Drop, O: Sink>(
     alloc: Global,
     study: &Study,
@@ -109,9 +107,7 @@ pub fn fold<K: Keeper + Drop, O: Sink>(
     out: &mut O,
 ) -> (Result<(), FoldFault>, Vec<K>)
     requires keepers { vec_len keepers ≡ 64 }
-    requires one_rank { study.now.sizes.ranks ≡ 1 }
     requires one_client { study.now.sizes.clients ≡ 1 }
-    requires alone { ShowsPowerAlone study.now }
     requires legal { is_legal study.now.sizes.ranks tape.now.lanes schedule.now ≡ true }
     requires calm { is_calm tape.now.lanes ≡ true }
     ensures text { Folds result.0 (result_text study.now tape.now.lanes schedule.now) (O.told out.old) (O.told out.new) (O.faults out.old) (O.faults out.new) }

@@ -18,16 +18,12 @@ pub enum FileRole {
 /// A part of the program that is not built yet.
 #[derive(Clone, Copy, Debug, PartialEq, Eq)]
 pub enum Part {
-    /// A command other than `fold`.
+    /// A command other than `fold`, `design` and `watch`.
     Command,
     /// `fold` with a schedule.
     Schedule,
-    /// A study with more than one rank.
-    Ranks,
     /// A study with more than one client.
     Clients,
-    /// A study that shows other statistics than `power`.
-    Statistics,
     /// A tape with a save or a crash on a control lane.
     Control,
 }
