@@ -58,14 +58,11 @@ holds_more thresholds x old new adds ws holds = record {
 abbrev pub AreDone : ℕ → List ℕ → ℕ → List ℕ → List ℕ → Type 0
 AreDone end thresholds x old new = (k : ℕ) → get_or new k 0 ≡ get_or old k 0 + more end thresholds x k
 
-pub counted : (ts : List ℕ) (x i : ℕ) (old now : List ℕ) → get_or ts i 0 < x → i < length now → AreDone i ts x old now → AreDone (i + 1) ts x old (set now i (get_or now i 0 + 1))
-counted ts x i old now greater within done k = elim (cases_lt k i) [
-  | inl h ↦ (let e = get_or-set_other now i k (get_or now i 0 + 1) 0 (λ p. omega arith) in grind (arith, nat_tests, e, done k))
+pub counted : (ts : List ℕ) (x i m : ℕ) (old now : List ℕ) → m ≡ cond (nat_lt (get_or ts i 0) x) 1 0 → i < length now → AreDone i ts x old now → AreDone (i + 1) ts x old (set now i (get_or now i 0 + m))
+counted ts x i m old now is within done k = elim (cases_lt k i) [
+  | inl h ↦ (let e = get_or-set_other now i k (get_or now i 0 + m) 0 (λ p. omega arith) in grind (arith, nat_tests, e, done k))
   | inr h ↦ elim (cases_lt i k) [
-    | inl g ↦ (let e = get_or-set_other now i k (get_or now i 0 + 1) 0 (λ p. omega arith) in grind (arith, nat_tests, e, done k))
-    | inr g ↦ (let same : k ≡ i = omega arith in let e = get_or-set_at now i k (get_or now i 0 + 1) 0 same within in grind (arith, nat_tests, same, e, done k))
+    | inl g ↦ (let e = get_or-set_other now i k (get_or now i 0 + m) 0 (λ p. omega arith) in grind (arith, nat_tests, e, done k))
+    | inr g ↦ (let same : k ≡ i = omega arith in let e = get_or-set_at now i k (get_or now i 0 + m) 0 same within in grind (arith, nat_tests, same, e, is, done k))
   ]
 ]
-
-pub passed_by : (ts : List ℕ) (x i : ℕ) (old now : List ℕ) → x ≤ get_or ts i 0 → AreDone i ts x old now → AreDone (i + 1) ts x old now
-passed_by ts x i old now least done k = grind (arith, nat_tests, done k)

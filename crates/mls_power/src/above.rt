@@ -1,10 +1,18 @@
 //! Numbers of samples above thresholds in packed storage.
 
-ghost use Rattle.std.specs.Prelude.{◌≡◌, ℕ, ◌+◌, ◌≤◌, List, [], ◌∷◌, ◌++◌, length, slice_index};
+ghost use Rattle.std.specs.Prelude.{◌≡◌, ℕ, ◌+◌, ◌≤◌, List, [], ◌∷◌, ◌++◌, length, slice_index, cond, nat_lt};
 ghost use Rattle.mls_power.specs.NumbersAbove.{HoldsAbove};
 ghost use Rattle.mls_power.specs.Rules.{AreNumbersAbove};
 
 use mls_base::shape::Shape;
+
+// 1 for a sample above a threshold, and 0 for another. It is added without a branch, which samples in no order would make slow.
+fn one_if_above(x: u16, threshold: u16) -> u32
+    ensures value { result ≡ cond (nat_lt threshold x) 1 0 }
+    ensures small { result ≤ 1 }
+{
+    if x > threshold { 1 } else { 0 }
+}
 
 /// Adds a sample, a shifted value, to the numbers above the thresholds of a shape, one number for each threshold. Numbers behind these stay.
 pub fn add_above(numbers: &mut [u32], shape: &Shape, x: u16)
@@ -15,8 +23,6 @@ pub fn add_above(numbers: &mut [u32], shape: &Shape, x: u16)
     ensures behind { (i : ℕ) → length shape.now.thresholds ≤ i → slice_index numbers.new i ≡ slice_index numbers.old i }
 {
     for i in 0..shape.thresholds() {
-        if x > shape.threshold(i) {
-            numbers[i as usize] += 1;
-        }
+        numbers[i as usize] += one_if_above(x, shape.threshold(i));
     }
 }

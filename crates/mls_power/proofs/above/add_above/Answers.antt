@@ -1,7 +1,7 @@
-use Rattle.std.proofs.Common.{◌≡◌, ℕ, ◌+◌, List, length, sym, subst, arith}
-use Rattle.mls_power.proofs.Counted.{AreDone, counted, passed_by, range_more}
+use Rattle.std.proofs.Common.{◌≡◌, ℕ, ◌+◌, List, length, get_or, cond, nat_lt, ap, ◌∙◌, subst, arith}
+use Rattle.std.proofs.lemmas.List.{length-set}
+use Rattle.mls_power.proofs.Counted.{AreDone, counted, range_more}
 use Rattle.mls_power.proofs.above.add_above.Goals as goal
-use Rattle.mls_power.proofs.above.add_above.Goals.{then-x-threshold, else-x-threshold}
 
 pub loop-i-preserved : goal.loop-i-preserved
 loop-i-preserved c =
@@ -11,11 +11,8 @@ loop-i-preserved c =
     let old = c.args.numbers.now in
     let now = c.loop-i.numbers in
     record {
-      kept = omega arith;
-      each = elim c.if-x-threshold.branch [
-        | then-x-threshold w ↦ subst (λ (ns : List ℕ). AreDone (i + 1) ts x old ns) (sym w.numbers-is) (counted ts x i old now (omega arith) (omega arith) c.loop-i.invariant.each)
-        | else-x-threshold w ↦ subst (λ (ns : List ℕ). AreDone (i + 1) ts x old ns) (sym w.numbers-is) (passed_by ts x i old now (omega arith) c.loop-i.invariant.each)
-      ];
+      kept = omega (arith, length-set now i (get_or now i 0 + c.one_if_above.result), c.loop-i.invariant.kept);
+      each = counted ts x i c.one_if_above.result old now (c.one_if_above.ensures.value ∙ ap (λ (t : ℕ). cond (nat_lt t x) 1 0) c.threshold.ensures.value) (omega arith) c.loop-i.invariant.each;
     }
 
 pub returns-clause-range : goal.returns-clause-range
