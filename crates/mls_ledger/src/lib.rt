@@ -4,3 +4,6 @@
 pub mod marks;
 
 pub use marks::Marks;
+
+#[cfg(test)]
+mod tests;

@@ -61,39 +61,39 @@ impl Marks {
         plane as usize * row + group as usize / 8
     }
 
-    /// Whether a key is in the set. No key that the study lacks is.
-    pub fn has(&self, group: u32, plane: u32) -> bool
-        ensures { result ≡ is_marked self.now group plane }
+    /// Whether a key is in the set. No key that the study lacks is. A step here is the number of a plane.
+    pub fn has(&self, group: u32, step: u32) -> bool
+        ensures { result ≡ is_marked self.now group step }
     {
-        if group >= self.groups || plane >= self.planes {
+        if group >= self.groups || step >= self.planes {
             return false;
         }
-        let byte = self.bytes[self.place(group, plane)];
+        let byte = self.bytes[self.place(group, step)];
         (byte >> (group % 8)) & 1 == 1
     }
 
-    /// Puts a key into the set.
-    pub fn set(&mut self, group: u32, plane: u32)
+    /// Puts a key into the set, which lacks it.
+    pub fn set(&mut self, group: u32, step: u32)
         requires group_in { group < self.old.groups }
-        requires plane_in { plane < self.old.planes }
-        requires absent { is_marked self.old group plane ≡ false }
+        requires plane_in { step < self.old.planes }
+        requires absent { is_marked self.old group step ≡ false }
         ensures groups { self.new.groups ≡ self.old.groups }
         ensures planes { self.new.planes ≡ self.old.planes }
-        ensures marked { (g p : ℕ) → is_marked self.new g p ≡ (is_marked self.old g p || ((g == group) && (p == plane))) }
-        ensures counted { (p : ℕ) → marked self.new p ≡ cond (p == plane) (marked self.old p + 1) (marked self.old p) }
-        ensures room { marked self.old plane < self.old.groups }
+        ensures marked { (g p : ℕ) → is_marked self.new g p ≡ (is_marked self.old g p || ((g == group) && (p == step))) }
+        ensures counted { (p : ℕ) → marked self.new p ≡ cond (p == step) (marked self.old p + 1) (marked self.old p) }
+        ensures room { marked self.old step < self.old.groups }
     {
-        let place = self.place(group, plane);
+        let place = self.place(group, step);
         self.bytes[place] |= 1 << (group % 8);
-        self.counts[plane as usize] += 1;
+        self.counts[step as usize] += 1;
     }
 
     /// The number of keys of a plane.
-    pub fn count(&self, plane: u32) -> u32
-        requires { plane < self.now.planes }
-        ensures { result ≡ marked self.now plane }
+    pub fn count(&self, step: u32) -> u32
+        requires { step < self.now.planes }
+        ensures { result ≡ marked self.now step }
     {
-        self.counts[plane as usize]
+        self.counts[step as usize]
     }
 
     /// Takes all keys out.
