@@ -1,0 +1,9 @@
+pub mod Latest
+pub mod Taking
+pub mod Storing
+pub mod Alone
+pub mod Rows
+pub mod Places
+pub mod Wholes
+pub mod Offering
+pub mod Lending

@@ -1,0 +1,17 @@
+//! The pieces of groups' timesteps that wait at a rank for those of other clients.
+#![tactic(auto)]
+
+pub mod assembled;
+pub mod group_step;
+mod opened;
+mod part;
+pub mod pending;
+pub mod pending_rows;
+
+pub use assembled::Assembled;
+pub use group_step::GroupStep;
+pub use pending::Pending;
+pub use pending_rows::PendingRows;
+
+#[cfg(test)]
+mod tests;

@@ -1,0 +1,63 @@
+//! The block of a key whose pieces are all there.
+
+ghost use Rattle.std.specs.Prelude.{◌≡◌, ℕ, ◌<◌, Some};
+ghost use Rattle.mls_model.specs.Blocks.{block, client_of};
+ghost use Rattle.mls_assembly.specs.Open.{IsOpen};
+
+use crate::opened::Open;
+use mls_base::Span;
+use mls_base::rows::Rows;
+use mls_base::shape::Shape;
+
+/// The samples of a rank's block, each read from the piece of the client whose part holds its cell.
+#[derive(Drop)]
+pub struct PendingRows<'a> {
+    pub(crate) shape: Shape,
+    pub(crate) rank: u32,
+    pub(crate) span: Span,
+    pub(crate) open: &'a Open,
+    ghost rank_in: { rank < shape.ranks },
+    ghost span_is: { span ≡ block shape rank },
+    ghost kept: { IsOpen shape rank open.now },
+}
+
+/// The client whose part holds a cell.
+#[inline]
+fn sender(shape: &Shape, cell: u32) -> u32
+    requires { cell < shape.now.cells }
+    ensures within { result < shape.now.clients }
+    ensures found { client_of shape.now cell ≡ Some result }
+{
+    let share = (cell as u64 + 1) * shape.clients() as u64 - 1;
+    (share / shape.cells() as u64) as u32
+}
+
+impl<'a> Rows for PendingRows<'a> {
+    ghost use Rattle.mls_assembly.specs.Lent.{row_count, place_count, sample};
+
+    ghost row_count = { row_count };
+
+    ghost place_count = { place_count };
+
+    ghost sample = { sample };
+
+    #[inline]
+    fn rows(&self) -> u32 {
+        self.shape.parameters() + 2
+    }
+
+    #[inline]
+    fn cells(&self) -> u32 {
+        self.span.end - self.span.first
+    }
+
+    #[inline]
+    fn at(&self, row: u32, cell: u32) -> u16 {
+        self.shape.valid();
+        let cell = self.span.first + cell;
+        match self.open.part(sender(&self.shape, cell)) {
+            Some(part) => part.at(row, cell),
+            None => 0,
+        }
+    }
+}
