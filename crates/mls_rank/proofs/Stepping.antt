@@ -20,16 +20,19 @@ use Rattle.mls_laws.specs.LastSave.{before_last_save}
 use Rattle.mls_laws.specs.OneMore.{counted}
 use Rattle.mls_laws.proofs.Surviving.{surviving_more, surviving_crash}
 use Rattle.mls_laws.proofs.Outcomes.{fitting_more, counts_more}
+use Rattle.mls_assembly.specs.Pendings.{Pends}
+use Rattle.mls_assembly.specs.Held.{Held, life_of, share_at}
 use Rattle.mls_rank.specs.Counting.{no_counts}
 use Rattle.mls_rank.specs.Standing.{KeepsRows, outcome_after}
 use Rattle.mls_rank.proofs.Keeping.{keeps_none}
+use Rattle.mls_rank.proofs.Waiting.{waits_at}
 
 -- before any event
 pub counts_none : (s : Sizes) (rank : ℕ) → no_counts ≡ counts s rank (surviving [])
 unfolding counts tally outcomes gathered surviving
 counts_none s rank = refl
 
-fitting_none : (s : Sizes) (rank : ℕ) → [] ≡ fitting s rank (surviving [])
+pub fitting_none : (s : Sizes) (rank : ℕ) → [] ≡ fitting s rank (surviving [])
 unfolding fitting surviving
 fitting_none s rank = refl
 
@@ -70,6 +73,14 @@ holds_step {F} stands s s1 s2 r r1 r2 m1 m2 f1 f2 history e none s_same s_kept r
     (subst (λ (m : MarkSet). KeepsRows s2 r2 (is_marked m) (marked m) (stands f1) (fitting s2 r2 (surviving (history ++ e ∷ [])))) (sym m_kept)
     (subst (λ (q : ℕ). KeepsRows s2 q (is_marked m1) (marked m1) (stands f1) (fitting s2 q (surviving (history ++ e ∷ [])))) (sym r_kept)
     (subst (λ (z : Sizes). KeepsRows z r1 (is_marked m1) (marked m1) (stands f1) (fitting z r1 (surviving (history ++ e ∷ [])))) (sym s_kept) sized)))
+
+pub waits_step : (s s1 s2 : Sizes) (r r1 r2 : ℕ) (h1 h2 : Held) (history : List Event) (e : Event) → is_crash e ≡ false → s1 ≡ s → s2 ≡ s1 → r1 ≡ r → r2 ≡ r1 → h2 ≡ h1
+    → Pends s1 r1 (life_of h1) (share_at h1) (fitting s r (surviving history) ++ option_to_list (fitting_piece s r e)) → Pends s2 r2 (life_of h2) (share_at h2) (fitting s2 r2 (surviving (history ++ e ∷ [])))
+waits_step s s1 s2 r r1 r2 h1 h2 history e none s_same s_kept r_same r_kept h_kept waits =
+    let pieces : fitting s r (surviving history) ++ option_to_list (fitting_piece s r e) ≡ fitting s2 r2 (surviving (history ++ e ∷ []))
+    = pieces_step s r history e none
+    ∙ sym (ap (λ z. fitting z r2 (surviving (history ++ e ∷ []))) (s_kept ∙ s_same) ∙ ap (λ q. fitting s q (surviving (history ++ e ∷ []))) (r_kept ∙ r_same)) in
+    waits_at s1 s2 r1 r2 h1 h2 (fitting s2 r2 (surviving (history ++ e ∷ []))) s_kept r_kept h_kept (subst (Pends s1 r1 (life_of h1) (share_at h1)) pieces waits)
 
 -- counts at equal numbers
 pub counts_at : (s s' : Sizes) (r r' : ℕ) (c : Counts) (events : List Event) → s' ≡ s → r' ≡ r → c ≡ counts s r events → c ≡ counts s' r' events

@@ -15,7 +15,9 @@ use Rattle.mls_model.specs.AcceptedRows.{accepted}
 use Rattle.mls_model.specs.Standing.{Table, rank_table}
 use Rattle.mls_field.specs.declared.fold.RowFold.{Ghosts}
 use Rattle.mls_rank.specs.declared.rank_core.RankCore.{RankCore}
-use Rattle.mls_rank.specs.Cores.{sizes_of, rank_of, counts_of, has_mark, mark_count, fold_of}
+use Rattle.mls_assembly.specs.Pendings.{Pends}
+use Rattle.mls_assembly.specs.Held.{life_of, share_at}
+use Rattle.mls_rank.specs.Cores.{sizes_of, rank_of, counts_of, has_mark, mark_count, fold_of, pending_of}
 
 -- marks, counts of marks and what a fold stands for are those of these fitting pieces
 pub record KeepsRows (s : Sizes) (rank : ℕ) (marks : ℕ → ℕ → Bool) (groups : ℕ → ℕ) (stands : Table → Type 0) (pieces : List Piece) : Type 0 where
@@ -27,10 +29,19 @@ pub record KeepsRows (s : Sizes) (rank : ℕ) (marks : ℕ → ℕ → Bool) (gr
 abbrev pub Holds : {F : Type 0} {T : Ghosts F} → RankCore F T → List Piece → Type 0
 Holds {F} {T} core pieces = KeepsRows (sizes_of core) (rank_of core) (has_mark core) (mark_count core) (T.stands (fold_of core)) pieces
 
--- The core is what a history leaves: its counts are those of the surviving events, and its marks and rows those of the fitting pieces among them.
+-- the core's pending pieces are those of these fitting pieces
+abbrev pub Waits : {F : Type 0} {T : Ghosts F} → RankCore F T → List Piece → Type 0
+Waits core pieces = Pends (sizes_of core) (rank_of core) (life_of (pending_of core)) (share_at (pending_of core)) pieces
+
+pub record Keeps {F : Type 0} {T : Ghosts F} (core : RankCore F T) (pieces : List Piece) : Type 0 where
+  pub holds : Holds core pieces
+  pub waits : Waits core pieces
+
+-- The core is what a history leaves: its counts are those of the surviving events, and its marks, rows and pending pieces those of the fitting pieces among them.
 pub record StandsFor {F : Type 0} {T : Ghosts F} (core : RankCore F T) (history : List Event) : Type 0 where
   pub counts : counts_of core ≡ counts (sizes_of core) (rank_of core) (surviving history)
   pub holds : Holds core (fitting (sizes_of core) (rank_of core) (surviving history))
+  pub waits : Waits core (fitting (sizes_of core) (rank_of core) (surviving history))
 
 -- the outcome of an event after these fitting pieces
 abbrev pub outcome_after : Sizes → ℕ → List Piece → LaneKind → Frame → Outcome

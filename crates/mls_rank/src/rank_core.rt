@@ -1,10 +1,12 @@
 //! The state of one rank.
 
-ghost use Rattle.std.specs.Prelude.{◌≡◌, ◌≢◌, ◌<◌, ◌≤◌, ◌+◌, ◌-◌, ◌^◌, ◌==◌, ◌||◌, ◌&&◌, ℕ, List, [], ◌∷◌, ◌++◌, true, false, IfOk, OnOk, OnErr};
+ghost use Rattle.std.specs.Prelude.{◌≡◌, ◌≢◌, ◌<◌, ◌≤◌, ◌+◌, ◌-◌, ◌^◌, ◌==◌, ◌||◌, ◌&&◌, ℕ, List, [], ◌∷◌, ◌++◌, true, false, IfOk, OnOk, OnErr, IsSome};
 ghost use Rattle.std.specs.Option.{option_to_list};
 ghost use Rattle.std.specs.List.{AllByRecursion};
 ghost use Rattle.mls_model.specs.Studies.{AreSizes, planes};
+ghost use Rattle.mls_model.specs.Blocks.{block, width};
 ghost use Rattle.mls_model.specs.Frames.{Piece};
+ghost use Rattle.mls_model.specs.Completion.{key_of};
 ghost use Rattle.mls_model.specs.Histories.{Event};
 ghost use Rattle.mls_model.specs.Survival.{is_save, is_crash, surviving};
 ghost use Rattle.mls_model.specs.Fitting.{piece_reason, frame_piece};
@@ -14,9 +16,12 @@ ghost use Rattle.mls_laws.specs.LastSave.{before_last_save};
 ghost use Rattle.mls_laws.specs.OneMore.{counted, total};
 ghost use Rattle.mls_frame.specs.Views.{frame_of};
 ghost use Rattle.mls_ledger.specs.MarkSets.{marked};
+ghost use Rattle.mls_assembly.specs.Held.{open_of};
+ghost use Rattle.mls_assembly.specs.Offered.{Completed};
 ghost use Rattle.mls_rank.specs.Counting.{no_counts, is_idle, is_saved, is_crashed};
 
 use crate::counting::{is_not_counted, no_events, one_more};
+use mls_assembly::{Assembled, GroupStep, Pending};
 use mls_base::faults::NoMemory;
 use mls_base::rows::Rows;
 use mls_base::shape::Shape;
@@ -27,7 +32,7 @@ use mls_model::lanes::LaneKind;
 use mls_model::outcomes::{Counts, Outcome, Reason};
 use std::alloc::Global;
 
-/// The state of one rank of a study with one client: the counts of its events, the marked keys and what a fold keeps of the accepted rows.
+/// The state of one rank: the counts of its events, the marked keys, the pieces that wait for those of other clients, and what a fold keeps of the accepted rows.
 ///
 /// It stands for the history of the events that it was given, where it does. Its type keeps that the rows added to a plane are as many as the plane's marks.
 #[derive(Drop)]
@@ -36,24 +41,25 @@ pub struct RankCore<F: RowFold> {
     rank: u32,
     counts: Counts,
     marks: Marks,
+    pending: Pending,
     fold: F,
     ghost rank_in: { rank < shape.ranks },
-    ghost one_client: { shape.clients ≡ 1 },
     ghost groups: { marks.groups ≡ shape.groups },
     ghost planes: { marks.planes ≡ planes shape },
     ghost fold_shape: { F.shape_of fold ≡ shape },
     ghost fold_rank: { F.rank_of fold ≡ rank },
+    ghost pending_shape: { pending.sizes ≡ shape },
+    ghost pending_rank: { pending.rank ≡ rank },
     ghost rows: { (plane : ℕ) → F.row_count fold plane ≡ marked marks plane },
 }
 
 impl<F: RowFold> RankCore<F> {
-    ghost use Rattle.mls_rank.specs.Cores.{sizes_of, rank_of, counts_of, has_mark, mark_count, fold_of};
-    ghost use Rattle.mls_rank.specs.Standing.{Holds, StandsFor, outcome_after, IsPart};
+    ghost use Rattle.mls_rank.specs.Cores.{sizes_of, rank_of, counts_of, has_mark, mark_count, fold_of, pending_of, IsSame};
+    ghost use Rattle.mls_rank.specs.Standing.{Holds, Keeps, StandsFor, outcome_after, IsPart};
 
     /// The state before any event.
     pub fn new(alloc: Global, shape: &Shape, rank: u32) -> Result<RankCore<F>, NoMemory>
-        requires rank_in { rank < shape.now.ranks }
-        requires one_client { shape.now.clients ≡ 1 }
+        requires { rank < shape.now.ranks }
         ensures sizes { IfOk result (λ core. sizes_of core ≡ shape.now) }
         ensures rank { IfOk result (λ core. rank_of core ≡ rank) }
         ensures counts { IfOk result (λ core. counts_of core ≡ no_counts) }
@@ -66,6 +72,7 @@ impl<F: RowFold> RankCore<F> {
             rank,
             counts: no_events(),
             marks,
+            pending: Pending::new(alloc, shape, rank),
             fold,
         })
     }
@@ -144,50 +151,114 @@ impl<F: RowFold> RankCore<F> {
         }
     }
 
-    /// Takes a piece that fits the rank: adds its rows and marks its key, unless the key is marked.
-    fn take_piece(&mut self, piece: &PieceView<'_>) -> Outcome
-        requires { piece_reason (sizes_of self.old) (rank_of self.old) piece.now ≡ None }
-        ensures outcome { (pieces : List Piece) → AllByRecursion (Fits (sizes_of self.old) (rank_of self.old)) pieces → Holds self.old pieces → result ≡ piece_outcome (sizes_of self.old) (rank_of self.old) pieces piece.now }
-        ensures holds { (pieces : List Piece) → AllByRecursion (Fits (sizes_of self.old) (rank_of self.old)) pieces → Holds self.old pieces → Holds self.new (pieces ++ piece.now ∷ []) }
+    /// Accepts a piece that covers the rank's block alone: marks its key and adds its rows.
+    fn accept_alone(&mut self, piece: &PieceView<'_>)
+        requires fits { piece_reason (sizes_of self.old) (rank_of self.old) piece.now ≡ None }
+        requires absent { has_mark self.old piece.now.group piece.now.plane ≡ false }
+        requires whole { piece.now.count ≡ width (block (sizes_of self.old) (rank_of self.old)) }
+        ensures keeps { (pieces : List Piece) → Holds self.old pieces → Completed (sizes_of self.old) (rank_of self.old) (pending_of self.old) piece.now pieces → Keeps self.new (pieces ++ piece.now ∷ []) }
         ensures sizes { sizes_of self.new ≡ sizes_of self.old }
         ensures rank { rank_of self.new ≡ rank_of self.old }
         ensures counts { counts_of self.new ≡ counts_of self.old }
-        ensures saved { is_saved result ≡ false }
-        ensures crashed { is_crashed result ≡ false }
-        ensures idle { result ≢ Outcome.Accepted → self.new ≡ self.old }
     {
         self.shape.valid();
-        if self.marks.has(piece.group(), piece.step()) {
-            return Outcome::Replay;
-        }
         self.marks.set(piece.group(), piece.step());
         self.fold.add_block(piece.step(), piece);
-        Outcome::Accepted
     }
 
-    /// Takes an event: what becomes of it, and the marks and rows with it. It counts nothing.
-    fn take(&mut self, kind: LaneKind, view: &FrameView<'_>) -> Outcome
-        ensures outcome { (pieces : List Piece) → AllByRecursion (Fits (sizes_of self.old) (rank_of self.old)) pieces → Holds self.old pieces → result ≡ outcome_after (sizes_of self.old) (rank_of self.old) pieces kind (frame_of view.now) }
-        ensures holds { (pieces : List Piece) → AllByRecursion (Fits (sizes_of self.old) (rank_of self.old)) pieces → Holds self.old pieces → Holds self.new (pieces ++ option_to_list (frame_piece (sizes_of self.old) (rank_of self.old) kind (frame_of view.now))) }
+    /// Accepts a piece that completes its key with those of other clients: marks the key, adds the rows of all of them and lets them go.
+    fn accept_parts(&mut self, piece: &PieceView<'_>)
+        requires fits { piece_reason (sizes_of self.old) (rank_of self.old) piece.now ≡ None }
+        requires absent { has_mark self.old piece.now.group piece.now.plane ≡ false }
+        requires part { (piece.now.count == width (block (sizes_of self.old) (rank_of self.old))) ≡ false }
+        requires ready { IsSome (open_of (pending_of self.old) (key_of piece.now)) }
+        ensures keeps { (pieces : List Piece) → Holds self.old pieces → Completed (sizes_of self.old) (rank_of self.old) (pending_of self.old) piece.now pieces → Keeps self.new (pieces ++ piece.now ∷ []) }
         ensures sizes { sizes_of self.new ≡ sizes_of self.old }
         ensures rank { rank_of self.new ≡ rank_of self.old }
         ensures counts { counts_of self.new ≡ counts_of self.old }
-        ensures saved { is_saved result ≡ is_save (record { kind = kind; frame = frame_of view.now }) }
-        ensures crashed { is_crashed result ≡ is_crash (record { kind = kind; frame = frame_of view.now }) }
-        ensures idle { result ≢ Outcome.Accepted → self.new ≡ self.old }
+    {
+        self.shape.valid();
+        let key = GroupStep {
+            group: piece.group(),
+            step: piece.step(),
+        };
+        self.marks.set(key.group, key.step);
+        self.fold.add_block(key.step, &self.pending.rows(key));
+        self.pending.drop_key(key);
+    }
+
+    /// Accepts a piece that completes its key.
+    fn accept(&mut self, piece: &PieceView<'_>)
+        requires fits { piece_reason (sizes_of self.old) (rank_of self.old) piece.now ≡ None }
+        requires absent { has_mark self.old piece.now.group piece.now.plane ≡ false }
+        requires ready { piece.now.count < width (block (sizes_of self.old) (rank_of self.old)) → IsSome (open_of (pending_of self.old) (key_of piece.now)) }
+        ensures keeps { (pieces : List Piece) → Holds self.old pieces → Completed (sizes_of self.old) (rank_of self.old) (pending_of self.old) piece.now pieces → Keeps self.new (pieces ++ piece.now ∷ []) }
+        ensures sizes { sizes_of self.new ≡ sizes_of self.old }
+        ensures rank { rank_of self.new ≡ rank_of self.old }
+        ensures counts { counts_of self.new ≡ counts_of self.old }
+    {
+        let block = self.shape.block(self.rank);
+        if piece.count() == block.end - block.first {
+            self.accept_alone(piece);
+        } else {
+            self.accept_parts(piece);
+        }
+    }
+
+    /// Takes a piece that fits the rank: adds the rows of its key where it completes it, and marks the key.
+    fn take_piece(&mut self, piece: &PieceView<'_>) -> Result<Outcome, NoMemory>
+        requires { piece_reason (sizes_of self.old) (rank_of self.old) piece.now ≡ None }
+        ensures outcome { (pieces : List Piece) → AllByRecursion (Fits (sizes_of self.old) (rank_of self.old)) pieces → Keeps self.old pieces → IfOk result (λ o. o ≡ piece_outcome (sizes_of self.old) (rank_of self.old) pieces piece.now) }
+        ensures keeps { (pieces : List Piece) → AllByRecursion (Fits (sizes_of self.old) (rank_of self.old)) pieces → Keeps self.old pieces → OnOk result (Keeps self.new (pieces ++ piece.now ∷ [])) }
+        ensures sizes { sizes_of self.new ≡ sizes_of self.old }
+        ensures rank { rank_of self.new ≡ rank_of self.old }
+        ensures counts { counts_of self.new ≡ counts_of self.old }
+        ensures counted { IfOk result (λ o. (is_idle o ≡ false) × (is_saved o ≡ false) × (is_crashed o ≡ false)) }
+        ensures kept { IfOk result (λ o. o ≢ Outcome.Accepted → (fold_of self.new ≡ fold_of self.old) × ((group plane : ℕ) → has_mark self.new group plane ≡ has_mark self.old group plane)) }
+        ensures memory { OnErr result (piece.now.count < width (block (sizes_of self.old) (rank_of self.old))) }
+        ensures err { OnErr result (IsSame self.old self.new) }
+    {
+        if self.marks.has(piece.group(), piece.step()) {
+            return Ok(Outcome::Replay);
+        }
+        let answer = self.pending.offer(piece)?;
+        match answer {
+            Assembled::Kept => Ok(Outcome::Kept),
+            Assembled::Stale => Ok(Outcome::Stale),
+            Assembled::Repeated => Ok(Outcome::Repeated),
+            Assembled::Complete => {
+                self.accept(piece);
+                Ok(Outcome::Accepted)
+            }
+        }
+    }
+
+    /// Takes an event: what becomes of it, and the marks, rows and pending pieces with it. It counts nothing.
+    fn take(&mut self, kind: LaneKind, view: &FrameView<'_>) -> Result<Outcome, NoMemory>
+        ensures outcome { (pieces : List Piece) → AllByRecursion (Fits (sizes_of self.old) (rank_of self.old)) pieces → Keeps self.old pieces → IfOk result (λ o. o ≡ outcome_after (sizes_of self.old) (rank_of self.old) pieces kind (frame_of view.now)) }
+        ensures keeps { (pieces : List Piece) → AllByRecursion (Fits (sizes_of self.old) (rank_of self.old)) pieces → Keeps self.old pieces → OnOk result (Keeps self.new (pieces ++ option_to_list (frame_piece (sizes_of self.old) (rank_of self.old) kind (frame_of view.now)))) }
+        ensures sizes { sizes_of self.new ≡ sizes_of self.old }
+        ensures rank { rank_of self.new ≡ rank_of self.old }
+        ensures counts { counts_of self.new ≡ counts_of self.old }
+        ensures saved { IfOk result (λ o. is_saved o ≡ is_save (record { kind = kind; frame = frame_of view.now })) }
+        ensures crashed { IfOk result (λ o. is_crashed o ≡ is_crash (record { kind = kind; frame = frame_of view.now })) }
+        ensures kept { IfOk result (λ o. o ≢ Outcome.Accepted → (fold_of self.new ≡ fold_of self.old) × ((group plane : ℕ) → has_mark self.new group plane ≡ has_mark self.old group plane)) }
+        ensures idle { IfOk result (λ o. is_idle o ≡ true → self.new ≡ self.old) }
+        ensures memory { OnErr result (IsPart (sizes_of self.old) (rank_of self.old) kind (frame_of view.now)) }
+        ensures err { OnErr result (IsSame self.old self.new) }
     {
         match (kind, view) {
             (LaneKind::Client, FrameView::Piece(piece)) => match self.reason_of(piece) {
-                Some(reason) => Outcome::Foreign(reason),
+                Some(reason) => Ok(Outcome::Foreign(reason)),
                 None => self.take_piece(piece),
             },
             (LaneKind::Client, FrameView::Save | FrameView::Crash) => {
-                Outcome::Foreign(Reason::LaneKind)
+                Ok(Outcome::Foreign(Reason::LaneKind))
             }
-            (LaneKind::Control, FrameView::Piece(_)) => Outcome::Foreign(Reason::LaneKind),
-            (LaneKind::Control, FrameView::Save) => Outcome::Save,
-            (LaneKind::Control, FrameView::Crash) => Outcome::Crash,
-            _ => Outcome::Quiet,
+            (LaneKind::Control, FrameView::Piece(_)) => Ok(Outcome::Foreign(Reason::LaneKind)),
+            (LaneKind::Control, FrameView::Save) => Ok(Outcome::Save),
+            (LaneKind::Control, FrameView::Crash) => Ok(Outcome::Crash),
+            _ => Ok(Outcome::Quiet),
         }
     }
 
@@ -198,6 +269,7 @@ impl<F: RowFold> RankCore<F> {
         ensures shape { self.new.shape ≡ self.old.shape }
         ensures rank { self.new.rank ≡ self.old.rank }
         ensures marks { self.new.marks ≡ self.old.marks }
+        ensures pending { self.new.pending ≡ self.old.pending }
         ensures fold { self.new.fold ≡ self.old.fold }
         ensures idle { is_idle outcome ≡ true → self.new ≡ self.old }
     {
@@ -228,9 +300,9 @@ impl<F: RowFold> RankCore<F> {
         ensures idle { IfOk result (λ o. is_idle o ≡ true → self.new ≡ self.old) }
 
         ensures memory { OnErr result (IsPart (sizes_of self.old) (rank_of self.old) kind (frame_of view.now)) }
-        ensures err { OnErr result (self.new ≡ self.old) }
+        ensures err { OnErr result (IsSame self.old self.new) }
     {
-        let outcome = self.take(kind, view);
+        let outcome = self.take(kind, view)?;
         self.count(outcome);
         Ok(outcome)
     }
@@ -250,6 +322,7 @@ impl<F: RowFold> RankCore<F> {
         ensures stands { StandsFor self.new [] }
     {
         self.marks.reset();
+        self.pending.reset();
         self.fold.reset();
         self.counts = no_events();
     }
