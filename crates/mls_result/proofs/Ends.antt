@@ -1,5 +1,5 @@
 -- The extrema line of values, of which there are some.
-use Rattle.std.proofs.Common.{◌≡◌, List, ℕ, suc, [], ◌∷◌, ◌<◌, length, Option, Some, None, refl, sym, ◌∙◌, ap, subst, arith}
+use Rattle.std.proofs.Common.{◌≡◌, List, [], ◌∷◌, ◌<◌, length, Option, Some, refl, ◌∙◌, ap, subst, arith}
 use Rattle.std.specs.Prelude.{ℤ, pos, unwrap_or}
 use Rattle.mls_model.specs.Statistics.{least, most}
 use Rattle.mls_model.specs.ResultText.{extrema_line}

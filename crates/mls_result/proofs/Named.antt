@@ -1,5 +1,5 @@
 -- What is said of the fields of a study that names them.
-use Rattle.std.proofs.Common.{◌≡◌, List, ℕ, Bool, true, false, [], ◌∷◌, Option, Some, None, refl, sym, ap}
+use Rattle.std.proofs.Common.{◌≡◌, List, ℕ, true, false, [], ◌∷◌, Option, Some, None, refl, ap}
 use Rattle.std.specs.Prelude.{codes, decimal, is_some, unwrap_or}
 use Rattle.std.specs.Option.{option_and_then}
 use Rattle.mls_model.specs.Numbers.{joined, element}

@@ -1,9 +1,8 @@
 -- The exceed line of values.
-use Rattle.std.proofs.Common.{◌≡◌, List, ℕ, zero, suc, [], ◌∷◌, ◌++◌, ◌<◌, length, map, get_or, slice_index, Bool, refl, sym, ◌∙◌, ap, arith}
+use Rattle.std.proofs.Common.{◌≡◌, List, ℕ, [], ◌∷◌, ◌++◌, ◌<◌, length, map, get_or, slice_index, Bool, refl, sym, ◌∙◌, ap}
 use Rattle.std.specs.Prelude.{ℤ, codes, decimal}
 use Rattle.std.specs.List.{flat_map}
 use Rattle.std.proofs.lemmas.List.{get_or-map}
-use Rattle.std.proofs.lemmas.List.Concat.{flat_map-append}
 use Rattle.mls_model.specs.Numbers.{joined}
 use Rattle.mls_model.specs.Samples.{unshifted}
 use Rattle.mls_model.specs.Statistics.{above}

@@ -1,5 +1,5 @@
 -- The lines of ranks, counted from 0.
-use Rattle.std.proofs.Common.{◌≡◌, List, ℕ, zero, suc, [], ◌∷◌, ◌++◌, ◌+◌, ◌<◌, ◌≤◌, length, map, drop, get_or, Option, refl, sym, ◌∙◌, ap, subst, arith, add-one}
+use Rattle.std.proofs.Common.{◌≡◌, List, ℕ, zero, suc, [], ◌∷◌, ◌+◌, ◌<◌, ◌≤◌, length, map, drop, get_or, Option, refl, sym, ◌∙◌, ap, subst, arith}
 use Rattle.std.specs.List.{flat_map, enumerate_from}
 use Rattle.mls_base.specs.Told.{appended, WroteFront}
 use Rattle.mls_model.specs.declared.outcomes.Counts.{Counts}

@@ -1,14 +1,10 @@
 -- The parts of the text of a study, from its history.
-use Rattle.std.proofs.Common.{◌≡◌, List, ℕ, Bool, true, false, [], ◌∷◌, ◌++◌, ◌+◌, ◌*◌, ◌/◌, ◌<◌, ◌≤◌, Option, Some, None, refl, sym, ◌∙◌, ap, subst, arith, append_assoc}
-use Rattle.std.specs.Prelude.{ℤ, find, IsTrue}
-use Rattle.std.specs.List.{flat_map}
-use Rattle.mls_model.specs.declared.blocks.Span.{Span}
-use Rattle.mls_model.specs.Numbers.{below}
+use Rattle.std.proofs.Common.{◌≡◌, List, ℕ, [], ◌<◌, ◌≤◌, Option, Some, None, sym, ap, arith}
 use Rattle.mls_model.specs.Studies.{Sizes, Study, plane_of}
-use Rattle.mls_model.specs.Blocks.{share, block, rank_of, is_in_span}
+use Rattle.mls_model.specs.Blocks.{block, rank_of}
 use Rattle.mls_model.specs.Histories.{Event}
 use Rattle.mls_model.specs.AcceptedRows.{rows}
-use Rattle.mls_model.specs.ResultText.{cell_text, field_text, step_text, cells_text}
+use Rattle.mls_model.specs.ResultText.{cell_text, field_text, step_text}
 use Rattle.mls_base.proofs.Sharing.{share_found, holder, holder_holds, holder_within, bounds}
 use Rattle.mls_result.specs.Histories.{pieces_of, history_rows}
 

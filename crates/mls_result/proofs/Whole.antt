@@ -1,17 +1,15 @@
 -- The whole text of a study.
-use Rattle.std.proofs.Common.{◌≡◌, List, ℕ, suc, [], ◌∷◌, ◌++◌, ◌+◌, ◌<◌, length, map, get_or, refl, sym, ◌∙◌, ap, subst, arith, append_assoc}
+use Rattle.std.proofs.Common.{◌≡◌, List, ℕ, ◌++◌, map, get_or, sym, ◌∙◌, ap, append_assoc}
 use Rattle.mls_field.specs.declared.fold.RowFold.{Ghosts}
 use Rattle.mls_model.specs.declared.lanes.LaneLine.{LaneLine}
 use Rattle.mls_model.specs.declared.outcomes.Counts.{Counts}
-use Rattle.mls_model.specs.Numbers.{below}
 use Rattle.mls_model.specs.Studies.{Sizes, Study}
 use Rattle.mls_model.specs.Histories.{Event}
 use Rattle.mls_model.specs.Survival.{surviving}
 use Rattle.mls_model.specs.Outcomes.{counts}
 use Rattle.mls_model.specs.ResultText.{study_line, rank_lines, lane_lines, cells_text, text_of}
 use Rattle.mls_rank.specs.declared.rank_core.RankCore.{RankCore}
-use Rattle.mls_rank.specs.Cores.{sizes_of, rank_of, counts_of}
-use Rattle.mls_rank.specs.Standing.{StandsFor}
+use Rattle.mls_rank.specs.Cores.{rank_of, counts_of}
 use Rattle.mls_result.proofs.Loops.{map_is}
 use Rattle.mls_result.specs.Words.{title_words, end_words}
 use Rattle.mls_result.specs.Histories.{history_counts, history_rows, history_text, AreCores, AllStand}

@@ -1,5 +1,5 @@
 -- The text of a study from the histories of its ranks.
-use Rattle.std.specs.Prelude.{◌≡◌, ℕ, ◌<◌, List, [], length, get_or, map, ℤ, Option, Some, None}
+use Rattle.std.specs.Prelude.{◌≡◌, ℕ, ◌<◌, List, [], length, get_or, map, ℤ, Some, None}
 use Rattle.mls_model.specs.declared.lanes.LaneLine.{LaneLine}
 use Rattle.mls_model.specs.declared.outcomes.Counts.{Counts}
 use Rattle.mls_model.specs.Numbers.{below}

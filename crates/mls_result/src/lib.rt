@@ -10,6 +10,8 @@ mod indices;
 mod lines;
 mod ranks;
 mod status;
+#[cfg(test)]
+mod tests;
 mod text;
 
 pub use fault::FoldFault;

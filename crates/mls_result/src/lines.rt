@@ -24,7 +24,7 @@ pub struct Moments {
 
 /// Writes the counts of a rank.
 #[tactic(auto, unfolding(mls_model::specs::ResultText::rank_line))]
-pub fn put_rank<O: Sink>(out: &mut O, rank: u32, counts: &Counts) -> Result<(), Failed>
+pub fn put_rank<O: Sink>(out: &mut O, rank: u64, counts: &Counts) -> Result<(), Failed>
     ensures { Writes result (rank_line rank counts.now) (O.told out.old) (O.told out.new) (O.faults out.old) (O.faults out.new) }
 {
     let mut number = Buffer::new();

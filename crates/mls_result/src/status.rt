@@ -22,8 +22,6 @@ pub enum Part {
     Command,
     /// `fold` with a schedule.
     Schedule,
-    /// A study with more than one client.
-    Clients,
     /// A tape with a save or a crash on a control lane.
     Control,
 }

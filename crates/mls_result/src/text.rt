@@ -11,7 +11,7 @@ ghost use Rattle.mls_result.specs.Words.{end_words};
 use crate::cells::put_cell;
 use crate::head::put_head;
 use crate::lines::put_lanes;
-use crate::ranks::write_ranks;
+use crate::ranks::put_ranks;
 use mls_base::faults::Failed;
 use mls_base::outside::Sink;
 use mls_base::shape::Shape;
@@ -117,9 +117,8 @@ pub fn write_result<O: Sink>(
     requires cores { AreCores study.now.sizes cores.now }
     ensures { (histories : ℕ → List Event) → AllStand cores.now histories → Writes result (history_text study.now histories lanes.now) (O.told out.old) (O.told out.new) (O.faults out.old) (O.faults out.new) }
 {
-    study.valid();
     put_head(out, study)?;
-    write_ranks(out, cores)?;
+    put_ranks(out, cores)?;
     put_lanes(out, lanes)?;
     put_steps(out, study, cores, study.shape().steps())?;
     put_end(out)

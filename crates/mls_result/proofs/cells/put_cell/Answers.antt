@@ -6,7 +6,7 @@ use Rattle.mls_model.specs.Standing.{rank_table}
 use Rattle.mls_field.specs.Stands.{shape_of, rank_of, StandsFor}
 use Rattle.mls_rank.specs.Cores.{sizes_of, rank_of as core_rank}
 use Rattle.mls_text.specs.Writing.{Writes}
-use Rattle.mls_text.proofs.Writing.{first_failed, rose_since, failed_writes, writes_after}
+use Rattle.mls_text.proofs.Writing.{first_failed, failed_writes, writes_after}
 use Rattle.mls_result.specs.Histories.{pieces_of}
 use Rattle.mls_result.proofs.CellText.{cell_is}
 use Rattle.mls_result.proofs.cells.put_cell.Goals as goal

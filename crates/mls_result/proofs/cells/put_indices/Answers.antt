@@ -1,4 +1,4 @@
-use Rattle.std.proofs.Common.{◌≡◌, List, ℕ, length, map, sym, ◌∙◌, ap, subst, refl}
+use Rattle.std.proofs.Common.{List, ℕ, map, sym, ◌∙◌, ap, subst, refl}
 use Rattle.mls_base.specs.Told.{appended}
 use Rattle.mls_model.specs.Samples.{unshifted}
 use Rattle.mls_field.specs.Stands.{shape_of}

@@ -1,7 +1,6 @@
-use Rattle.std.proofs.Common.{◌≡◌, List, ℕ, map, sym, ◌∙◌, ap, subst, refl}
+use Rattle.std.proofs.Common.{List, ℕ, map, sym, ◌∙◌, ap, subst, refl}
 use Rattle.mls_base.specs.Told.{appended}
 use Rattle.mls_model.specs.Samples.{unshifted}
-use Rattle.mls_model.specs.ResultText.{power_lines}
 use Rattle.mls_field.specs.Stands.{shape_of}
 use Rattle.mls_text.specs.Writing.{Writes}
 use Rattle.mls_text.proofs.Writing.{appended-nil}

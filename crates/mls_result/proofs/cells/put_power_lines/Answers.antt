@@ -1,7 +1,7 @@
 use Rattle.std.proofs.Common.{arith, map, ◌<◌, ◌≡◌, ◌++◌, List, ℕ, length, ap, sym, subst}
 use Rattle.mls_model.specs.Samples.{unshifted}
 use Rattle.mls_field.specs.Stands.{shape_of}
-use Rattle.mls_text.proofs.Writing.{first_failed, later_failed, both_out, rose_since, failed_writes, writes_after}
+use Rattle.mls_text.proofs.Writing.{first_failed, later_failed, rose_since, failed_writes, writes_after}
 use Rattle.mls_result.proofs.Powers.{are_lines, no_outputs}
 use Rattle.mls_model.specs.ResultText.{power_line, variance_line, third_line}
 use Rattle.mls_text.specs.Writing.{Writes}

@@ -1,4 +1,4 @@
-use Rattle.std.proofs.Common.{◌≡◌, ℕ, ◌*◌, ◌≤◌, Option, Some, None, IfSome, ℤ, pos, negsuc, ◌≤ℤ◌, unsigned_abs, FitsSigned, to_z-of_z, sym, ap, ◌∙◌, subst, arith, rules}
+use Rattle.std.proofs.Common.{Option, Some, None, IfSome, ℤ, pos, negsuc, ◌≤ℤ◌, FitsSigned, to_z-of_z, sym, ap, ◌∙◌, subst, arith, rules}
 use Rattle.std.specs.Int.{w128}
 use Rattle.std.proofs.lemmas.Int.{ints}
 use Rattle.mls_model.specs.Indices.{rho6}

@@ -1,26 +1,8 @@
-use Rattle.std.proofs.Common.{arith, ap, sym, subst, ◌∙◌, ◌≡◌, get_or}
-use Rattle.mls_model.specs.ResultText.{rank_line, rank_lines}
-use Rattle.mls_base.specs.Told.{appended, WroteFront}
-use Rattle.mls_rank.specs.Cores.{counts_of}
-use Rattle.mls_text.proofs.Writing.{rose_since, failed_writes}
-use Rattle.mls_result.proofs.RankLines.{rank_more, rank_failed, ranks_all}
+use Rattle.mls_text.proofs.Writing.{first_failed, failed_writes, writes_after}
 use Rattle.mls_result.proofs.ranks.write_ranks.Goals as goal
 
-pub returns-in_err-put_rank : goal.returns-in_err-put_rank
-unfolding rank_lines
-returns-in_err-put_rank g c =
-    let same = c.counts-counts.ensures ∙ ap counts_of c.index-cores-rank.is in
-    failed_writes _ _ _ _ _ _ _ c.from_residual.ensures.1
-    (rank_failed counts_of c.loop-rank.rank c.args.cores.now c.index-cores-rank.result _ _ _ _ _ _ c.loop-rank-test.true c.loop-rank.invariant
-    (subst (λ n. WroteFront (g.O.Sink.told c.loop-rank.out) (g.O.Sink.told c.put_rank.new.out) (rank_line c.loop-rank.rank n)) same c.in_err-put_rank.ensures.0))
-    (rose_since _ _ _ c.loop-rank.invariant.faultless c.in_err-put_rank.ensures.1)
-
-pub loop-rank-preserved : goal.loop-rank-preserved
-loop-rank-preserved g c =
-    let same = c.counts-counts.ensures ∙ ap counts_of c.index-cores-rank.is in
-    rank_more counts_of c.loop-rank.rank c.args.cores.now c.index-cores-rank.result _ _ _ _ _ _ _ c.loop-rank-test.true c.loop-rank.invariant
-    (c.in_ok-put_rank.ensures.0 ∙ ap (λ n. appended (g.O.Sink.told c.loop-rank.out) (rank_line c.loop-rank.rank n)) same) c.in_ok-put_rank.ensures.1
+pub returns-in_err-put_counts : goal.returns-in_err-put_counts
+returns-in_err-put_counts g c = failed_writes _ _ _ _ _ _ _ c.from_residual.ensures.1 (first_failed _ _ _ _ c.in_err-put_counts.ensures.0) c.in_err-put_counts.ensures.1
 
 pub returns : goal.returns
-unfolding rank_lines
-returns g c = (ranks_all counts_of c.loop-rank.rank c.args.cores.now _ _ _ _ _ c.loop-rank-test.false c.loop-rank.invariant, c.loop-rank.invariant.faultless)
+returns g c = writes_after _ _ _ _ _ _ _ _ _ c.in_ok-put_counts.ensures.0 c.in_ok-put_counts.ensures.1 c.put_lanes.ensures

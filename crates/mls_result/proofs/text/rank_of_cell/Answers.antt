@@ -1,4 +1,4 @@
-use Rattle.std.proofs.Common.{◌≡◌, ℕ, ◌+◌, ◌-◌, ◌*◌, ◌/◌, Option, Some, sym, ap, ◌∙◌}
+use Rattle.std.proofs.Common.{ℕ, ◌+◌, ◌-◌, ◌*◌, ◌/◌, Some, sym, ap, ◌∙◌}
 use Rattle.mls_result.proofs.Texts.{holder_is_found}
 use Rattle.mls_result.proofs.text.rank_of_cell.Goals as goal
 

@@ -1,6 +1,5 @@
-use Rattle.std.proofs.Common.{arith, ◌≡◌, ◌<◌, length, map, sym, subst, List, ℕ}
+use Rattle.std.proofs.Common.{map, sym, subst, List, ℕ}
 use Rattle.mls_rank.specs.Cores.{counts_of}
-use Rattle.mls_rank.specs.Standing.{StandsFor}
 use Rattle.mls_text.specs.Writing.{Writes}
 use Rattle.mls_text.proofs.Writing.{first_failed, later_failed, rose_since, failed_writes, writes_after}
 use Rattle.mls_result.proofs.Whole.{counts_are, text-split}
@@ -13,33 +12,30 @@ returns-in_err-put_head g c = λ histories stand.
     let P : List ℕ → Type 0 = λ t. Writes c.from_residual.result t (g.O.Sink.told c.args.out.now) (g.O.Sink.told c.put_head.new.out) (g.O.Sink.faults c.args.out.now) (g.O.Sink.faults c.put_head.new.out) in
     subst P (sym text) (failed_writes _ _ _ _ _ _ _ c.from_residual.ensures.1 (first_failed _ _ _ _ c.in_err-put_head.ensures.0) c.in_err-put_head.ensures.1)
 
-pub returns-in_err-write_ranks : goal.returns-in_err-write_ranks
-returns-in_err-write_ranks g c = λ histories stand.
+pub returns-in_err-put_ranks : goal.returns-in_err-put_ranks
+returns-in_err-put_ranks g c = λ histories stand.
     let study = c.args.study.now in
     let text = text-split study histories c.args.lanes.now (map counts_of c.args.cores.now) (counts_are study.sizes c.args.cores.now histories c.requires.cores stand) in
-    let P : List ℕ → Type 0 = λ t. Writes c.from_residual-in_err-write_ranks.result t (g.O.Sink.told c.args.out.now) (g.O.Sink.told c.write_ranks.new.out) (g.O.Sink.faults c.args.out.now) (g.O.Sink.faults c.write_ranks.new.out) in
-    subst P (sym text) (failed_writes _ _ _ _ _ _ _ c.from_residual-in_err-write_ranks.ensures.1 (later_failed _ _ _ _ _ c.in_ok-put_head.ensures.0 (first_failed _ _ _ _ c.in_err-write_ranks.ensures.0)) (rose_since _ _ _ c.in_ok-put_head.ensures.1 c.in_err-write_ranks.ensures.1))
+    let P : List ℕ → Type 0 = λ t. Writes c.from_residual-in_err-put_ranks.result t (g.O.Sink.told c.args.out.now) (g.O.Sink.told c.put_ranks.new.out) (g.O.Sink.faults c.args.out.now) (g.O.Sink.faults c.put_ranks.new.out) in
+    subst P (sym text) (failed_writes _ _ _ _ _ _ _ c.from_residual-in_err-put_ranks.ensures.1 (later_failed _ _ _ _ _ c.in_ok-put_head.ensures.0 (first_failed _ _ _ _ c.in_err-put_ranks.ensures.0)) (rose_since _ _ _ c.in_ok-put_head.ensures.1 c.in_err-put_ranks.ensures.1))
 
 pub returns-in_err-put_lanes : goal.returns-in_err-put_lanes
 returns-in_err-put_lanes g c = λ histories stand.
     let study = c.args.study.now in
     let text = text-split study histories c.args.lanes.now (map counts_of c.args.cores.now) (counts_are study.sizes c.args.cores.now histories c.requires.cores stand) in
     let P : List ℕ → Type 0 = λ t. Writes c.from_residual-in_err-put_lanes.result t (g.O.Sink.told c.args.out.now) (g.O.Sink.told c.put_lanes.new.out) (g.O.Sink.faults c.args.out.now) (g.O.Sink.faults c.put_lanes.new.out) in
-    subst P (sym text) (failed_writes _ _ _ _ _ _ _ c.from_residual-in_err-put_lanes.ensures.1 (later_failed _ _ _ _ _ c.in_ok-put_head.ensures.0 (later_failed _ _ _ _ _ c.in_ok-write_ranks.ensures.0 (first_failed _ _ _ _ c.in_err-put_lanes.ensures.0))) (rose_since _ _ _ c.in_ok-put_head.ensures.1 (rose_since _ _ _ c.in_ok-write_ranks.ensures.1 c.in_err-put_lanes.ensures.1)))
+    subst P (sym text) (failed_writes _ _ _ _ _ _ _ c.from_residual-in_err-put_lanes.ensures.1 (later_failed _ _ _ _ _ c.in_ok-put_head.ensures.0 (later_failed _ _ _ _ _ c.in_ok-put_ranks.ensures.0 (first_failed _ _ _ _ c.in_err-put_lanes.ensures.0))) (rose_since _ _ _ c.in_ok-put_head.ensures.1 (rose_since _ _ _ c.in_ok-put_ranks.ensures.1 c.in_err-put_lanes.ensures.1)))
 
 pub returns-in_err-put_steps : goal.returns-in_err-put_steps
 returns-in_err-put_steps g c = λ histories stand.
     let study = c.args.study.now in
     let text = text-split study histories c.args.lanes.now (map counts_of c.args.cores.now) (counts_are study.sizes c.args.cores.now histories c.requires.cores stand) in
     let P : List ℕ → Type 0 = λ t. Writes c.from_residual-in_err-put_steps.result t (g.O.Sink.told c.args.out.now) (g.O.Sink.told c.put_steps.new.out) (g.O.Sink.faults c.args.out.now) (g.O.Sink.faults c.put_steps.new.out) in
-    subst P (sym text) (failed_writes _ _ _ _ _ _ _ c.from_residual-in_err-put_steps.ensures.1 (later_failed _ _ _ _ _ c.in_ok-put_head.ensures.0 (later_failed _ _ _ _ _ c.in_ok-write_ranks.ensures.0 (later_failed _ _ _ _ _ c.in_ok-put_lanes.ensures.0 (first_failed _ _ _ _ (c.in_err-put_steps.ensures histories stand).0)))) (rose_since _ _ _ c.in_ok-put_head.ensures.1 (rose_since _ _ _ c.in_ok-write_ranks.ensures.1 (rose_since _ _ _ c.in_ok-put_lanes.ensures.1 (c.in_err-put_steps.ensures histories stand).1))))
+    subst P (sym text) (failed_writes _ _ _ _ _ _ _ c.from_residual-in_err-put_steps.ensures.1 (later_failed _ _ _ _ _ c.in_ok-put_head.ensures.0 (later_failed _ _ _ _ _ c.in_ok-put_ranks.ensures.0 (later_failed _ _ _ _ _ c.in_ok-put_lanes.ensures.0 (first_failed _ _ _ _ (c.in_err-put_steps.ensures histories stand).0)))) (rose_since _ _ _ c.in_ok-put_head.ensures.1 (rose_since _ _ _ c.in_ok-put_ranks.ensures.1 (rose_since _ _ _ c.in_ok-put_lanes.ensures.1 (c.in_err-put_steps.ensures histories stand).1))))
 
 pub returns : goal.returns
 returns g c = λ histories stand.
     let study = c.args.study.now in
     let text = text-split study histories c.args.lanes.now (map counts_of c.args.cores.now) (counts_are study.sizes c.args.cores.now histories c.requires.cores stand) in
     let P : List ℕ → Type 0 = λ t. Writes c.put_end.result t (g.O.Sink.told c.args.out.now) (g.O.Sink.told c.put_end.new.out) (g.O.Sink.faults c.args.out.now) (g.O.Sink.faults c.put_end.new.out) in
-    subst P (sym text) (writes_after _ _ _ _ _ _ _ _ _ c.in_ok-put_head.ensures.0 c.in_ok-put_head.ensures.1 (writes_after _ _ _ _ _ _ _ _ _ c.in_ok-write_ranks.ensures.0 c.in_ok-write_ranks.ensures.1 (writes_after _ _ _ _ _ _ _ _ _ c.in_ok-put_lanes.ensures.0 c.in_ok-put_lanes.ensures.1 (writes_after _ _ _ _ _ _ _ _ _ (c.in_ok-put_steps.ensures histories stand).0 (c.in_ok-put_steps.ensures histories stand).1 c.put_end.ensures))))
-
-pub write_ranks-requires : goal.write_ranks-requires
-write_ranks-requires g c = omega (arith, c.requires.cores.count, c.valid.ensures.sizes.ranks)
+    subst P (sym text) (writes_after _ _ _ _ _ _ _ _ _ c.in_ok-put_head.ensures.0 c.in_ok-put_head.ensures.1 (writes_after _ _ _ _ _ _ _ _ _ c.in_ok-put_ranks.ensures.0 c.in_ok-put_ranks.ensures.1 (writes_after _ _ _ _ _ _ _ _ _ c.in_ok-put_lanes.ensures.0 c.in_ok-put_lanes.ensures.1 (writes_after _ _ _ _ _ _ _ _ _ (c.in_ok-put_steps.ensures histories stand).0 (c.in_ok-put_steps.ensures histories stand).1 c.put_end.ensures))))
