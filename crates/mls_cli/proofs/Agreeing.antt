@@ -21,7 +21,7 @@ use Rattle.mls_cli.specs.declared.steps.Refusal.{Refusal}
 use Rattle.mls_cli.specs.declared.steps.Refusal.TheVariants as refusal
 use Rattle.mls_cli.specs.Answers.{Answers, fold_status, out_status}
 use Rattle.mls_cli.specs.Words.{words_of}
-use Rattle.mls_cli.specs.Ideal.{◌>>=◌, command_or_usage, right_study, right_fold_study, right_lanes, right_events, right_fold, right_design, right_watch, right_command, ideal}
+use Rattle.mls_cli.specs.Ideal.{◌>>=◌, command_or_usage, right_study, right_lanes, right_events, right_fold, right_design, right_watch, right_command, ideal}
 use Rattle.mls_cli.specs.Refusals.{status_of, IsRefused, Agrees}
 
 -- a refusal of the first step is one of both
@@ -42,15 +42,15 @@ agrees_second {A} view result right x next first second =
 
 -- ---- the two files of a fold
 
-pub fold_refused_study : (held : Names) (study_name tape_name : List ℕ) (r : Refusal) → IsRefused r (right_fold_study held study_name) → IsRefused r (right_fold held study_name tape_name)
+pub fold_refused_study : (held : Names) (study_name tape_name : List ℕ) (r : Refusal) → IsRefused r (right_study held study_name) → IsRefused r (right_fold held study_name tape_name)
 unfolding right_fold
-fold_refused_study held study_name tape_name r is = refused_first r (right_fold_study held study_name) _ is
+fold_refused_study held study_name tape_name r is = refused_first r (right_study held study_name) _ is
 
-pub fold_refused_tape : (held : Names) (study_name tape_name : List ℕ) (r : Refusal) (study : Study) → right_fold_study held study_name ≡ Ok study → IsRefused r (right_lanes held study tape_name) → IsRefused r (right_fold held study_name tape_name)
+pub fold_refused_tape : (held : Names) (study_name tape_name : List ℕ) (r : Refusal) (study : Study) → right_study held study_name ≡ Ok study → IsRefused r (right_lanes held study tape_name) → IsRefused r (right_fold held study_name tape_name)
 unfolding right_fold
 fold_refused_tape held study_name tape_name r study first is = rw (first) (refused_first r (right_lanes held study tape_name) _ is)
 
-pub fold_of : (held : Names) (study_name tape_name : List ℕ) (study : Study) (lanes : List Lane) → right_fold_study held study_name ≡ Ok study → right_lanes held study tape_name ≡ Ok lanes → right_fold held study_name tape_name ≡ Ok (result_text study lanes (plain study.sizes.ranks lanes))
+pub fold_of : (held : Names) (study_name tape_name : List ℕ) (study : Study) (lanes : List Lane) → right_study held study_name ≡ Ok study → right_lanes held study tape_name ≡ Ok lanes → right_fold held study_name tape_name ≡ Ok (result_text study lanes (plain study.sizes.ranks lanes))
 unfolding right_fold
 fold_of held study_name tape_name study lanes first second = rw (first, second) refl
 

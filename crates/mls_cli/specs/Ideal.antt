@@ -1,5 +1,5 @@
 -- What is right: the text that a command writes, or its refusal, from the files that are held.
-use Rattle.std.specs.Prelude.{ℕ, cond, List, length, Option, Some, None, Result, Ok, Err, nat_lt, ◌==◌}
+use Rattle.std.specs.Prelude.{ℕ, cond, List, length, Option, Some, None, Result, Ok, Err, nat_lt}
 use Rattle.mls_base.specs.Told.{Names}
 use Rattle.mls_model.specs.declared.launcher.Event.{Event}
 use Rattle.mls_model.specs.Studies.{Study}
@@ -57,10 +57,6 @@ events_answer (Err line) = Err (status.Events line)
 abbrev pub not_built : {A : Type 0} → Part → Result A Status
 not_built p = Err (status.NotBuilt p)
 
--- a study of one client
-abbrev pub built_study : Study → Result Study Status
-built_study study = cond (study.sizes.clients == 1) (Ok study) (not_built part.Clients)
-
 -- a tape without saves and crashes on control lanes
 abbrev pub built_tape : List Lane → Result (List Lane) Status
 built_tape lanes = cond (is_calm lanes) (Ok lanes) (not_built part.Control)
@@ -81,10 +77,6 @@ content_events bytes = events_answer (events_of bytes)
 unfoldable pub right_study : Names → List ℕ → Result Study Status
 right_study files name = limited role.Study study_limit (files name) >>= content_study
 
--- the study of a name, where all that it asks of a fold is built
-unfoldable pub right_fold_study : Names → List ℕ → Result Study Status
-right_fold_study files name = right_study files name >>= built_study
-
 -- the lanes of a name
 unfoldable pub right_lanes : Names → Study → List ℕ → Result (List Lane) Status
 right_lanes files study name = limited role.Tape tape_limit (files name) >>= content_lanes study
@@ -96,7 +88,7 @@ right_events files name = limited role.Events events_limit (files name) >>= cont
 -- the text of a fold under the plain schedule
 unfoldable pub right_fold : Names → (study tape : List ℕ) → Result (List ℕ) Status
 right_fold files study_name tape_name = do
-  study ← right_fold_study files study_name
+  study ← right_study files study_name
   lanes ← right_lanes files study tape_name
   Ok (result_text study lanes (plain study.sizes.ranks lanes))
 

@@ -58,7 +58,3 @@ IsOfContent (refusal.Events line) = ⊤
 abbrev pub study_refusal : StudyFault → Refusal
 study_refusal study.Memory = refusal.Memory
 study_refusal fault = refusal.Study fault
-
--- a study of one client
-abbrev pub IsBuilt : Study → Type 0
-IsBuilt study = study.sizes.clients ≡ 1

@@ -8,9 +8,9 @@ ghost use Rattle.mls_replay.specs.Calm.{is_calm};
 ghost use Rattle.mls_replay.specs.Folding.{Folds};
 ghost use Rattle.mls_cli.specs.Ideal.{right_fold};
 ghost use Rattle.mls_cli.specs.Answers.{Answers, IsQuiet, fold_status};
-ghost use Rattle.mls_cli.specs.Refusals.{Counts, IsBuilt, IsRefused};
+ghost use Rattle.mls_cli.specs.Refusals.{Counts, IsRefused};
 
-use crate::steps::{Refusal, into_status, load_fold_study, load_tape};
+use crate::steps::{Refusal, into_status, load_study, load_tape};
 use mls_base::outside::{Files, Keeper, Sink};
 use mls_replay::fold;
 use mls_result::{FoldFault, Status};
@@ -35,13 +35,12 @@ fn load_inputs<F: Files>(
     ensures right { (held : Names) → F.held files.old ≡ Some held → MatchResult result
         (λ inputs. right_fold held study_name.now tape_name.now ≡ Ok (result_text inputs.study inputs.tape.lanes (plain inputs.study.sizes.ranks inputs.tape.lanes)))
         (λ r. IsRefused r (right_fold held study_name.now tape_name.now)) }
-    ensures built { IfOk result (λ inputs. IsBuilt inputs.study) }
     ensures calm { IfOk result (λ inputs. is_calm inputs.tape.lanes ≡ true) }
     ensures ranks { IfOk result (λ inputs. inputs.tape.ranks ≡ inputs.study.sizes.ranks) }
     ensures loads { IfErr result (λ r. Counts r (F.load_faults files.old) (F.load_faults files.new)) }
     ensures saves { F.save_faults files.new ≡ F.save_faults files.old }
 {
-    let study = load_fold_study(alloc, files, study_name)?;
+    let study = load_study(alloc, files, study_name)?;
     let tape = load_tape(alloc, files, &study, tape_name)?;
     Ok(FoldInputs { study, tape })
 }
@@ -55,7 +54,6 @@ fn fold_plain<O: Sink, K: Keeper + Drop>(
     keepers: Vec<K>,
 ) -> (Result<(), FoldFault>, Vec<K>)
     requires keepers { vec_len keepers ≡ 64 }
-    requires built { IsBuilt study.now }
     requires calm { is_calm tape.now.lanes ≡ true }
     requires ranks { tape.now.ranks ≡ study.now.sizes.ranks }
     ensures text { Folds result.0 (result_text study.now tape.now.lanes (plain study.now.sizes.ranks tape.now.lanes)) (O.told out.old) (O.told out.new) (O.faults out.old) (O.faults out.new) }

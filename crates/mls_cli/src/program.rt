@@ -4,19 +4,22 @@ ghost use Rattle.std.specs.Prelude.{◌≡◌, vec_len, IfOk};
 
 use crate::commands::melissa;
 use mls_base::ends::{StdFiles, StdSink};
-use mls_base::memory::AbsentKeeper;
 use mls_result::Status;
+use mls_slot::{FileDisk, SlotKeeper};
 use std::alloc::{AllocError, Global};
 use std::env;
 use std::process::ExitCode;
 
-/// A keeper for each rank there may be. Each of them fails; no command calls one.
-pub(crate) fn absent_keepers(alloc: Global) -> Result<Vec<AbsentKeeper>, AllocError>
+/// The checkpoint store of each rank there may be, over the files `checkpoints/rank-R.0` and `checkpoints/rank-R.1`.
+fn checkpoint_stores<'a>(
+    rt: &'a HostRuntime,
+    alloc: Global,
+) -> Result<Vec<SlotKeeper<FileDisk<&'a HostRuntime>>>, AllocError>
     ensures { IfOk result (λ keepers. vec_len keepers ≡ 64) }
 {
-    let mut keepers = Vec::new(alloc);
-    for _ in 0..64_u32 {
-        keepers.push(AbsentKeeper::new())?;
+    let mut keepers = Vec::with_capacity(alloc, 64)?;
+    for rank in 0..64_u32 {
+        keepers.push(SlotKeeper::new(FileDisk::new(rt, rank)))?;
     }
     Ok(keepers)
 }
@@ -37,7 +40,7 @@ fn answer(rt: &HostRuntime, alloc: Global) -> Result<Status, Status> {
     let words = words(rt, alloc)?;
     let mut files = StdFiles::new(rt);
     let mut out = StdSink::new(rt);
-    match absent_keepers(alloc) {
+    match checkpoint_stores(rt, alloc) {
         Ok(keepers) => {
             let (status, _) = melissa(alloc, words.as_slice(), &mut files, &mut out, keepers);
             Ok(status)

@@ -4,9 +4,9 @@ ghost use Rattle.std.specs.Prelude.{◌≡◌, ◌≤◌, ◌||◌, length, true
 ghost use Rattle.mls_base.specs.Told.{Names};
 ghost use Rattle.mls_result.specs.declared.status.Status.TheVariants as status;
 ghost use Rattle.mls_replay.specs.Calm.{is_calm};
-ghost use Rattle.mls_cli.specs.Ideal.{limited, right_study, right_fold_study, right_lanes, right_events, built_study, built_tape, content_study, content_lanes, content_events};
+ghost use Rattle.mls_cli.specs.Ideal.{limited, right_study, right_lanes, right_events, built_tape, content_study, content_lanes, content_events};
 ghost use Rattle.mls_cli.specs.Answers.{out_status};
-ghost use Rattle.mls_cli.specs.Refusals.{status_of, study_refusal, Agrees, Counts, IsOfContent, IsBuilt};
+ghost use Rattle.mls_cli.specs.Refusals.{status_of, study_refusal, Agrees, Counts, IsOfContent};
 
 use mls_base::faults::LoadFault;
 use mls_base::outside::Files;
@@ -103,20 +103,6 @@ fn study_refusal(fault: StudyFault) -> Refusal
     }
 }
 
-/// The study, if all that it asks of a fold is built.
-fn if_built(study: Study) -> Result<Study, Refusal>
-    ensures right { Agrees (λ s. s) result (built_study study) }
-    ensures built { IfOk result IsBuilt }
-    ensures content { IfErr result IsOfContent }
-{
-    if study.shape().clients() == 1 {
-        return Ok(study);
-    }
-    Err(Refusal::NotBuilt {
-        part: Part::Clients,
-    })
-}
-
 /// The study in these bytes.
 fn study_in(alloc: Global, bytes: &[u8]) -> Result<Study, Refusal>
     ensures right { Agrees (λ s. s) result (content_study bytes.now) }
@@ -141,22 +127,6 @@ pub(crate) fn load_study<F: Files>(
 {
     let bytes = load(alloc, files, name, STUDY_LIMIT, FileRole::Study)?;
     study_in(alloc, bytes.as_slice())
-}
-
-/// The study of a name, if all that it asks of a fold is built.
-pub(crate) fn load_fold_study<F: Files>(
-    alloc: Global,
-    files: &mut F,
-    name: &str,
-) -> Result<Study, Refusal>
-    ensures right { (held : Names) → F.held files.old ≡ Some held → Agrees (λ s. s) result (right_fold_study held name.now) }
-    ensures built { IfOk result IsBuilt }
-    ensures held { OnOk result (F.held files.new ≡ F.held files.old) }
-    ensures loads { MatchResult result (λ _. F.load_faults files.new ≡ F.load_faults files.old) (λ r. Counts r (F.load_faults files.old) (F.load_faults files.new)) }
-    ensures saves { F.save_faults files.new ≡ F.save_faults files.old }
-{
-    let study = load_study(alloc, files, name)?;
-    if_built(study)
 }
 
 /// The tape, if all that it asks for is built.

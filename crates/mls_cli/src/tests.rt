@@ -1,8 +1,9 @@
 //! The commands over files, a sink and keepers in memory.
 
-use crate::program::absent_keepers;
+ghost use Rattle.std.specs.Prelude.{◌≡◌, vec_len, IfOk};
+
 use crate::{Words, WordsFault, melissa, read_words};
-use mls_base::memory::{MemFiles, MemSink};
+use mls_base::memory::{MemFiles, MemKeeper, MemSink};
 use mls_model::studies::{Key, Product};
 use mls_result::{FileRole, Part, Status};
 use mls_study::StudyFault;
@@ -19,6 +20,12 @@ const SIGNED: &[u8] =
 const FIELDS: &[u8] =
     b"cells = 1\nsteps = 1\ngroups = 2\nfields = [\"u\", \"v\"]\nstatistics = [\"power\"]\n[[parameters]]\nname = \"x\"\nlow = 0\nhigh = 9\n";
 
+const EVERYTHING: &[u8] =
+    b"cells = 1\nsteps = 1\ngroups = 2\nthresholds = [1, 3]\n[[parameters]]\nname = \"x\"\nlow = 0\nhigh = 9\n";
+
+const TWO_RANKS: &[u8] =
+    b"cells = 2\nsteps = 1\ngroups = 2\nranks = 2\nstatistics = [\"power\"]\n[[parameters]]\nname = \"x\"\nlow = 0\nhigh = 9\n";
+
 const TWO_CLIENTS: &[u8] =
     b"cells = 2\nsteps = 1\ngroups = 2\nclients = 2\nstatistics = [\"power\"]\n[[parameters]]\nname = \"x\"\nlow = 0\nhigh = 9\n";
 
@@ -30,6 +37,9 @@ const MOST_SIGNED: &[u8] =
 
 // What stands before the length of the only lane, a client's of rank 0.
 const HEAD: &[u8] = &[77, 84, 65, 80, 0, 1, 0, 0, 0, 1, 0, 0, 0];
+
+// The same of a control lane.
+const CONTROL_HEAD: &[u8] = &[77, 84, 65, 80, 0, 1, 0, 0, 0, 1, 1, 0, 0];
 
 const SIGNED_HEAD: &[u8] = &[77, 84, 65, 80, 0, 2, 1, 0, 0, 0, 1, 0, 0, 0];
 
@@ -56,6 +66,17 @@ const SIGNED_PIECES: &[u8] = &[
 const SECOND_PLANE: &[u8] = &[
     0, 0, 0, 31, 1, 0, 0, 0, 1, 0, 0, 0, 0, 0, 0, 0, 1, 0, 0, 0, 3, 0, 0, 0, 0, 0, 0, 0, 1, 0, 7,
     0, 9, 0, 9,
+];
+
+// Group 0 of client 1 with samples 5, 1, 1 in cell 1; and of client 0.
+const OTHER_CLIENT: &[u8] = &[
+    0, 0, 0, 31, 1, 0, 0, 0, 1, 0, 0, 0, 0, 0, 0, 0, 0, 0, 1, 0, 3, 0, 0, 0, 1, 0, 0, 0, 1, 0, 5,
+    0, 1, 0, 1,
+];
+
+const OTHER_CELL: &[u8] = &[
+    0, 0, 0, 31, 1, 0, 0, 0, 1, 0, 0, 0, 0, 0, 0, 0, 0, 0, 0, 0, 3, 0, 0, 0, 1, 0, 0, 0, 1, 0, 5,
+    0, 1, 0, 1,
 ];
 
 // A group that the study lacks.
@@ -110,6 +131,17 @@ fn empty_text(alloc: Global, foreign: &str, lane: &str) -> Result<String, AllocE
     )
 }
 
+/// A keeper in memory for each rank there may be, none of which holds anything.
+fn no_checkpoints(alloc: Global) -> Result<Vec<MemKeeper>, AllocError>
+    ensures { IfOk result (λ keepers. vec_len keepers ≡ 64) }
+{
+    let mut keepers = Vec::new(alloc);
+    for _ in 0..64_u32 {
+        keepers.push(MemKeeper::new(alloc, Vec::new(alloc)))?;
+    }
+    Ok(keepers)
+}
+
 /// What a command answers over these files, of whose calls these fail, and what a sink of so much room holds then.
 fn answer_of(
     alloc: Global,
@@ -131,7 +163,7 @@ fn answer_of(
     for word in words {
         command.push(String::from_str(alloc, word)?)?;
     }
-    let keepers = absent_keepers(alloc)?;
+    let keepers = no_checkpoints(alloc)?;
     let (status, _) = melissa(alloc, command.as_slice(), &mut files, &mut sink, keepers);
     Ok((status, Vec::from_slice(alloc, sink.bytes())?))
 }
@@ -163,6 +195,15 @@ fn fold_of(
 
 const TWO_GROUPS_TEXT: &[u8] =
     b"melissa-result 1\nstudy cells 1 steps 1 groups 2 parameters 1 ranks 1 clients 1\nrank 0 accepted 2 kept 0 replay 0 stale 0 repeated 0 foreign 0 0 0 0 0 0\nlane 0 rank 0 client events 2 clean\nstep 0 cell 0 groups 2\npower 10 36 154 708\nvariance 44/12\nthird 144/64\nend\n";
+
+const EVERYTHING_TEXT: &[u8] =
+    b"melissa-result 1\nstudy cells 1 steps 1 groups 2 parameters 1 ranks 1 clients 1\nrank 0 accepted 2 kept 0 replay 0 stale 0 repeated 0 foreign 0 0 0 0 0 0\nlane 0 rank 0 client events 2 clean\nstep 0 cell 0 groups 2\npower 10 36 154 708\nvariance 44/12\nthird 144/64\nextrema 1 5\nexceed 2 1\nsobol x 1.000000 2.000000 4 -8 16 4 4\nend\n";
+
+const TWO_CLIENTS_TEXT: &[u8] =
+    b"melissa-result 1\nstudy cells 2 steps 1 groups 2 parameters 1 ranks 1 clients 2\nrank 0 accepted 1 kept 1 replay 0 stale 0 repeated 0 foreign 0 0 0 0 0 0\nlane 0 rank 0 client events 1 clean\nlane 1 rank 0 client events 1 clean\nstep 0 cell 0 groups 1\npower 4 10 28 82\nvariance 4/2\nthird 0/8\nstep 0 cell 1 groups 1\npower 6 26 126 626\nvariance 16/2\nthird 0/8\nend\n";
+
+const TWO_RANKS_TEXT: &[u8] =
+    b"melissa-result 1\nstudy cells 2 steps 1 groups 2 parameters 1 ranks 2 clients 1\nrank 0 accepted 1 kept 0 replay 0 stale 0 repeated 0 foreign 0 0 0 0 0 0\nrank 1 accepted 1 kept 0 replay 0 stale 0 repeated 0 foreign 0 0 0 0 0 0\nlane 0 rank 0 client events 1 clean\nlane 1 rank 1 client events 1 clean\nstep 0 cell 0 groups 1\npower 4 10 28 82\nvariance 4/2\nthird 0/8\nstep 0 cell 1 groups 1\npower 6 26 126 626\nvariance 16/2\nthird 0/8\nend\n";
 
 const CUT_TEXT: &[u8] =
     b"melissa-result 1\nstudy cells 1 steps 1 groups 2 parameters 1 ranks 1 clients 1\nrank 0 accepted 2 kept 0 replay 0 stale 0 repeated 0 foreign 0 0 0 0 0 0\nlane 0 rank 0 client events 2 cut at 70\nstep 0 cell 0 groups 2\npower 10 36 154 708\nvariance 44/12\nthird 144/64\nend\n";
@@ -200,6 +241,13 @@ fn lanes_are_folded(rt: HostRuntime) {
             HEAD,
             [FIRST, SECOND, b""],
             TWO_GROUPS_TEXT,
+        ),
+        (
+            "all statistics",
+            EVERYTHING,
+            HEAD,
+            [FIRST, SECOND, b""],
+            EVERYTHING_TEXT,
         ),
         ("replay", STUDY, HEAD, [FIRST, FIRST, b""], REPLAY_TEXT),
         ("cut lane", STUDY, HEAD, [FIRST, SECOND, cut], CUT_TEXT),
@@ -241,8 +289,25 @@ fn lanes_are_folded(rt: HostRuntime) {
 }
 
 #[test]
+fn clients_and_ranks_are_folded(rt: HostRuntime) {
+    let alloc = rt.alloc();
+    let cases = [
+        (TWO_CLIENTS, 0_u8, OTHER_CLIENT, TWO_CLIENTS_TEXT),
+        (TWO_RANKS, 1, OTHER_CELL, TWO_RANKS_TEXT),
+    ];
+    for (study, rank, second, text) in cases {
+        let head = [77, 84, 65, 80, 0, 1, 0, 0, 0, 2, 0, 0, 0, 0, 0, 0, 35].as_slice();
+        let between = [0, 0, rank, 0, 0, 0, 35];
+        let tape = joined(alloc, &[head, FIRST, between.as_slice(), second]).expect(&rt, "memory");
+        let (number, bytes) = fold_of(alloc, study, tape.as_slice(), 1000).expect(&rt, "memory");
+        assert!(rt; number == 0 && bytes.as_slice() == text, "{rank}");
+    }
+}
+
+#[test]
 fn refusals_write_nothing(rt: HostRuntime) {
     let alloc = rt.alloc();
+    let saved = tape_of(alloc, CONTROL_HEAD, SAVE).expect(&rt, "memory");
     let lane = joined(alloc, &[FIRST, SECOND]).expect(&rt, "memory");
     let tape = tape_of(alloc, HEAD, lane.as_slice()).expect(&rt, "memory");
     let cases = [
@@ -262,9 +327,9 @@ fn refusals_write_nothing(rt: HostRuntime) {
             b"".as_slice(),
         ),
         (
-            "two clients",
-            TWO_CLIENTS,
-            tape.as_slice(),
+            "a save on a control lane",
+            STUDY,
+            saved.as_slice(),
             10,
             b"".as_slice(),
         ),
@@ -580,7 +645,7 @@ fn statuses_have_texts(rt: HostRuntime) {
         (Status::Memory, "out of memory"),
         (
             Status::NotBuilt {
-                part: Part::Clients,
+                part: Part::Control,
             },
             "not built yet",
         ),

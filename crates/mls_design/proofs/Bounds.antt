@@ -1,15 +1,12 @@
 -- How large words, inputs and samples are.
-use Rattle.std.proofs.Common.{◌≡◌, ℕ, zero, suc, ◌+◌, ◌-◌, ◌*◌, ◌/◌, ◌%◌, ◌^◌, ◌<◌, ◌≤◌, List, [], ◌∷◌, length, get_or, map, ℤ, pos, ◌+ℤ◌, ◌-ℤ◌, ◌≤ℤ◌, bit_xor, refl, sym, ◌∙◌, ap, subst, arith, mod-lt, pow_pos}
-use Rattle.std.specs.Prelude.{unsigned_abs, sum_by, Some}
-use Rattle.std.specs.Int.{w32}
-use Rattle.std.specs.List.{enumerate_from, AllByRecursion}
+use Rattle.std.proofs.Common.{◌≡◌, ℕ, ◌+◌, ◌-◌, ◌*◌, ◌/◌, ◌%◌, ◌^◌, ◌<◌, ◌≤◌, ℤ, pos, ◌+ℤ◌, ◌-ℤ◌, ◌≤ℤ◌, bit_xor, sym, ap, subst, arith, mod-lt, pow_pos}
+use Rattle.std.specs.Prelude.{unsigned_abs}
 use Rattle.std.proofs.lemmas.Int.{ints}
 use Rattle.std.proofs.lemmas.Nat.{or_lt, shr_le, div_below}
 use Rattle.std.proofs.Math.Nat.{mul-le-mul_right, mul_comm, mul-lt-mul_of_pos_right}
-use Rattle.rand_pcg.specs.Lcg.{Lcg}
-use Rattle.rand_pcg.specs.Pcg.{output_xsh_rr, pcg32}
-use Rattle.mls_model.specs.Studies.{Parameter, IsParameter}
-use Rattle.mls_model.specs.Designs.{generator, drawn, word, choices, value_of, scaled, response}
+use Rattle.rand_pcg.specs.Pcg.{output_xsh_rr}
+use Rattle.mls_model.specs.Studies.{Parameter}
+use Rattle.mls_model.specs.Designs.{generator, drawn, word, choices, value_of, scaled}
 
 pub distance : (low : ℤ) (q : ℕ) → unsigned_abs ((low +ℤ pos q) -ℤ low) ≡ q
 distance low q = let e : (low +ℤ pos q) -ℤ low ≡ pos q = omega (arith, ints) in ap unsigned_abs e

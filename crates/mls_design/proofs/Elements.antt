@@ -1,8 +1,7 @@
 -- The element at a place of a list.
-use Rattle.std.proofs.Common.{◌≡◌, ℕ, zero, suc, ◌+◌, ◌<◌, ◌≤◌, List, [], ◌∷◌, ◌++◌, length, get_or, take, map, Some, None, refl, sym, ◌∙◌, ap, arith, add-one}
+use Rattle.std.proofs.Common.{◌≡◌, ℕ, zero, suc, ◌+◌, ◌<◌, List, [], ◌∷◌, ◌++◌, length, get_or, take, map, Some, refl, ◌∙◌, ap, arith, add-one}
 use Rattle.std.specs.List.{enumerate_from}
 use Rattle.std.specs.Option.{option_map}
-use Rattle.std.proofs.lemmas.List.{map_push}
 use Rattle.mls_model.specs.Numbers.{element}
 
 pub element_map : {A B : Type 0} (f : A → B) (xs : List A) (n : ℕ) → element (map f xs) n ≡ option_map f (element xs n)

@@ -1,15 +1,14 @@
 -- A simulation's inputs, and what the solver makes of them.
-use Rattle.std.proofs.Common.{◌≡◌, ℕ, zero, suc, ◌+◌, ◌-◌, ◌*◌, ◌/◌, ◌%◌, ◌^◌, ◌<◌, ◌≤◌, Bool, cond, List, [], ◌∷◌, ◌++◌, length, get_or, take, drop, map, Some, refl, sym, ◌∙◌, ap, subst, arith}
+use Rattle.std.proofs.Common.{◌≡◌, ℕ, zero, suc, ◌+◌, ◌-◌, ◌*◌, ◌/◌, ◌%◌, ◌^◌, ◌<◌, ◌≤◌, cond, List, [], ◌∷◌, length, get_or, drop, map, sym, ◌∙◌, ap, arith}
 use Rattle.std.specs.Prelude.{sum_by}
 use Rattle.std.specs.List.{enumerate_from, AllByRecursion}
-use Rattle.std.proofs.lemmas.List.{length-map, drop_all, take_all}
+use Rattle.std.proofs.lemmas.List.{length-map, drop_all}
 use Rattle.std.proofs.lemmas.List.FromFn.{length-enumerate_from, get_or-enumerate_from}
 use Rattle.std.proofs.lemmas.List.Sums.{sum_by-cons, sum_by-drop_more}
 use Rattle.std.proofs.lemmas.Nat.{div_below}
 use Rattle.std.proofs.Math.Nat.{mul-le-mul_right, mod-lt}
-use Rattle.mls_model.specs.Numbers.{element}
 use Rattle.mls_model.specs.Studies.{Study, Parameter}
-use Rattle.mls_model.specs.Designs.{word, word_of, takes_b, place_of_a, place_of_b, value_of, scaled, inputs, response, solve}
+use Rattle.mls_model.specs.Designs.{word_of, takes_b, place_of_a, place_of_b, value_of, scaled, inputs, response, solve}
 use Rattle.mls_design.proofs.Bounds.{word_small, input_small}
 
 -- an input with its weight

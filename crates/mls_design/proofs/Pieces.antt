@@ -1,5 +1,5 @@
 -- The samples of a piece.
-use Rattle.std.proofs.Common.{◌≡◌, ℕ, zero, suc, ◌+◌, ◌-◌, ◌*◌, ◌<◌, ◌≤◌, List, [], ◌∷◌, ◌++◌, length, map, refl, sym, ◌∙◌, ap, arith, append_assoc, length-append}
+use Rattle.std.proofs.Common.{◌≡◌, ℕ, zero, suc, ◌+◌, ◌-◌, ◌*◌, ◌≤◌, List, [], ◌∷◌, ◌++◌, length, map, refl, sym, ◌∙◌, ap, arith, append_assoc, length-append}
 use Rattle.std.specs.List.{flat_map}
 use Rattle.std.proofs.lemmas.List.{length-map}
 use Rattle.std.proofs.lemmas.Grind.{flat_map-append}
@@ -7,7 +7,7 @@ use Rattle.mls_model.specs.Numbers.{below}
 use Rattle.std.proofs.Math.Nat.{mul-le-mul_right}
 use Rattle.mls_model.specs.declared.blocks.Span.{Span}
 use Rattle.mls_model.specs.Blocks.{overlap, width}
-use Rattle.mls_model.specs.Frames.{Frame, Piece, piece}
+use Rattle.mls_model.specs.Frames.{Frame, piece}
 use Rattle.mls_model.specs.Studies.{Study, plane_of}
 use Rattle.mls_model.specs.Designs.{inputs, response, solve, solved_row, solved_piece}
 use Rattle.mls_design.proofs.Counting.{length-below, map-below_more, flat_map-below_more}

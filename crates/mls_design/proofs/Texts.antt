@@ -1,13 +1,12 @@
 -- A line of the design text from its parts, and the whole text.
-use Rattle.std.proofs.Common.{◌≡◌, ℕ, zero, suc, ◌+◌, ◌*◌, ◌<◌, ◌≤◌, List, [], ◌∷◌, ◌++◌, length, take, ℤ, Some, refl, sym, ◌∙◌, ap, subst, arith, append_assoc}
+use Rattle.std.proofs.Common.{◌≡◌, ℕ, ◌+◌, ◌*◌, ◌≤◌, List, [], ◌∷◌, ◌++◌, length, take, ℤ, Some, refl, sym, ◌∙◌, ap, arith, append_assoc}
 use Rattle.std.specs.Prelude.{codes, decimal}
-use Rattle.std.specs.Fmt.{signed_decimal}
 use Rattle.std.specs.List.{flat_map}
 use Rattle.std.proofs.lemmas.List.{take_all}
 use Rattle.std.proofs.lemmas.Grind.{flat_map-append}
-use Rattle.mls_model.specs.Numbers.{below, element, joined}
-use Rattle.mls_model.specs.Studies.{Study, Parameter}
-use Rattle.mls_model.specs.Designs.{values, design_line, group_lines, design_text}
+use Rattle.mls_model.specs.Numbers.{element}
+use Rattle.mls_model.specs.Studies.{Study}
+use Rattle.mls_model.specs.Designs.{values, design_line, design_text}
 use Rattle.mls_design.specs.Lines.{title_words, line_start, value_words, all_lines, end_words}
 use Rattle.mls_design.proofs.Elements.{take_element}
 

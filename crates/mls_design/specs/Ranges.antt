@@ -1,5 +1,5 @@
 -- The range of a parameter.
-use Rattle.std.specs.Prelude.{[], ℤ, pos, negsuc, ◌-ℤ◌, ◌≤ℤ◌}
+use Rattle.std.specs.Prelude.{[], pos, negsuc, ◌-ℤ◌, ◌≤ℤ◌}
 use Rattle.mls_model.specs.Studies.{Parameter}
 
 -- a parameter without its name

@@ -24,7 +24,6 @@ fn run_ranks(
     tape: &Tape,
     schedule: &Schedule,
 ) -> Result<Vec<RankCore<Field>>, NoMemory>
-    requires one_client { study.now.sizes.clients ≡ 1 }
     requires legal { is_legal study.now.sizes.ranks tape.now.lanes schedule.now ≡ true }
     requires calm { is_calm tape.now.lanes ≡ true }
     ensures cores { IfOk result (λ cores. AreCores study.now.sizes cores.items) }
@@ -60,7 +59,6 @@ pub fn fold_cores<K: Keeper + Drop>(
     keepers: Vec<K>,
 ) -> (Result<Vec<RankCore<Field>>, FoldFault>, Vec<K>)
     requires keepers { vec_len keepers ≡ 64 }
-    requires one_client { study.now.sizes.clients ≡ 1 }
     requires legal { is_legal study.now.sizes.ranks tape.now.lanes schedule.now ≡ true }
     requires calm { is_calm tape.now.lanes ≡ true }
     ensures cores { IfOk result.0 (λ cores. AreCores study.now.sizes cores.items) }
@@ -96,8 +94,6 @@ fn write_cores<O: Sink>(
 
 /// Folds a tape under a schedule and writes the result text: each rank runs over its whole list, in rising number, and then
 /// the text is written. Each keeper comes back in its place; none is called, since the tape holds no save and no crash.
-///
-/// This form is for studies of one client.
 pub fn fold<K: Keeper + Drop, O: Sink>(
     alloc: Global,
     study: &Study,
@@ -107,7 +103,6 @@ pub fn fold<K: Keeper + Drop, O: Sink>(
     out: &mut O,
 ) -> (Result<(), FoldFault>, Vec<K>)
     requires keepers { vec_len keepers ≡ 64 }
-    requires one_client { study.now.sizes.clients ≡ 1 }
     requires legal { is_legal study.now.sizes.ranks tape.now.lanes schedule.now ≡ true }
     requires calm { is_calm tape.now.lanes ≡ true }
     ensures text { Folds result.0 (result_text study.now tape.now.lanes schedule.now) (O.told out.old) (O.told out.new) (O.faults out.old) (O.faults out.new) }

@@ -54,7 +54,6 @@ pub fn run_rank<F: RowFold>(
     order: &[u32],
 ) -> Result<RankCore<F>, NoMemory>
     requires rank_in { rank < shape.now.ranks }
-    requires one_client { shape.now.clients ≡ 1 }
     requires legal { is_legal_order tape.now.lanes rank order.now ≡ true }
     requires calm { is_calm tape.now.lanes ≡ true }
     ensures sizes { IfOk result (λ core. sizes_of core ≡ shape.now) }

@@ -1,4 +1,4 @@
-use Rattle.std.proofs.Common.{◌++◌, subst, List, ℕ}
+use Rattle.std.proofs.Common.{◌++◌, subst}
 use Rattle.mls_base.specs.Told.{WroteFront}
 use Rattle.mls_text.specs.Writing.{Writes}
 use Rattle.mls_text.proofs.Writing.{first_failed, later_failed, writes_after, rose_since, failed_writes}

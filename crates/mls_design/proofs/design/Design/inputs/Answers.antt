@@ -3,7 +3,6 @@ use Rattle.std.proofs.lemmas.List.{take_all}
 use Rattle.mls_model.specs.Designs.{inputs}
 use Rattle.mls_design.specs.Kept.{Kept}
 use Rattle.mls_design.proofs.Drawing.{parameters_are}
-use Rattle.mls_design.proofs.Elements.{take_element}
 use Rattle.mls_design.proofs.Inputs.{length-inputs}
 use Rattle.mls_design.proofs.design.Design.inputs.Goals as goal
 

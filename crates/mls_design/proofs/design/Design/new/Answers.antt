@@ -1,6 +1,5 @@
-use Rattle.std.proofs.Common.{◌≡◌, ◌∙◌, ap}
+use Rattle.std.proofs.Common.{◌∙◌, ap}
 use Rattle.mls_model.specs.Studies.{Sizes}
-use Rattle.mls_design.specs.Kept.{Kept, design_of}
 use Rattle.mls_design.proofs.Drawing.{made_design, kept_made}
 use Rattle.mls_design.proofs.design.Design.new.Goals as goal
 
