@@ -1,5 +1,5 @@
 -- An answer that agrees with what is right is exact and complete.
-use Rattle.std.proofs.Common.{◌≡◌, ℕ, List, Option, Result, Ok, Err, refl, ap, sym, subst, ◌∙◌, inl, inr, ◌⊎◌}
+use Rattle.std.proofs.Common.{◌≡◌, ℕ, List, Option, Result, Err, refl, sym, subst, ◌∙◌, inl, inr, ◌⊎◌}
 use Rattle.mls_result.specs.declared.status.Status.{Status}
 use Rattle.mls_result.specs.declared.status.Status.TheVariants as status
 use Rattle.mls_cli.specs.Answers.{Answers, Exactly, IsAnswered, IsRefusal, IsRight}

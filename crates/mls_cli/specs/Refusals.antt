@@ -1,7 +1,6 @@
 -- Why a command has no inputs, against what is right.
 use Rattle.std.specs.Prelude.{◌≡◌, ℕ, Result, Ok, Err, ⊤}
 use Rattle.mls_base.specs.Told.{Rose}
-use Rattle.mls_model.specs.Studies.{Study}
 use Rattle.mls_result.specs.declared.status.Status.{Status}
 use Rattle.mls_result.specs.declared.status.Status.TheVariants as status
 use Rattle.mls_study.specs.declared.fault.StudyFault.{StudyFault}

@@ -242,13 +242,6 @@ fn lanes_are_folded(rt: HostRuntime) {
             [FIRST, SECOND, b""],
             TWO_GROUPS_TEXT,
         ),
-        (
-            "all statistics",
-            EVERYTHING,
-            HEAD,
-            [FIRST, SECOND, b""],
-            EVERYTHING_TEXT,
-        ),
         ("replay", STUDY, HEAD, [FIRST, FIRST, b""], REPLAY_TEXT),
         ("cut lane", STUDY, HEAD, [FIRST, SECOND, cut], CUT_TEXT),
         (
@@ -289,6 +282,25 @@ fn lanes_are_folded(rt: HostRuntime) {
 }
 
 #[test]
+fn all_statistics_are_printed(rt: HostRuntime) {
+    let alloc = rt.alloc();
+    let lane = joined(alloc, &[FIRST, SECOND]).expect(&rt, "memory");
+    let tape = tape_of(alloc, HEAD, lane.as_slice()).expect(&rt, "memory");
+    let (number, bytes) = fold_of(alloc, EVERYTHING, tape.as_slice(), 1000).expect(&rt, "memory");
+    assert!(rt; number == 0 && bytes.as_slice() == EVERYTHING_TEXT);
+}
+
+/// The tape of a lane of rank 0 with the first piece and one of a rank with another.
+fn two_lanes(alloc: Global, rank: u8, second: &[u8]) -> Result<Vec<u8>, AllocError> {
+    let mut tape = Vec::new(alloc);
+    tape.extend_from_slice(&[77, 84, 65, 80, 0, 1, 0, 0, 0, 2, 0, 0, 0, 0, 0, 0, 35])?;
+    tape.extend_from_slice(FIRST)?;
+    tape.extend_from_slice(&[0, 0, rank, 0, 0, 0, 35])?;
+    tape.extend_from_slice(second)?;
+    Ok(tape)
+}
+
+#[test]
 fn clients_and_ranks_are_folded(rt: HostRuntime) {
     let alloc = rt.alloc();
     let cases = [
@@ -296,9 +308,7 @@ fn clients_and_ranks_are_folded(rt: HostRuntime) {
         (TWO_RANKS, 1, OTHER_CELL, TWO_RANKS_TEXT),
     ];
     for (study, rank, second, text) in cases {
-        let head = [77, 84, 65, 80, 0, 1, 0, 0, 0, 2, 0, 0, 0, 0, 0, 0, 35].as_slice();
-        let between = [0, 0, rank, 0, 0, 0, 35];
-        let tape = joined(alloc, &[head, FIRST, between.as_slice(), second]).expect(&rt, "memory");
+        let tape = two_lanes(alloc, rank, second).expect(&rt, "memory");
         let (number, bytes) = fold_of(alloc, study, tape.as_slice(), 1000).expect(&rt, "memory");
         assert!(rt; number == 0 && bytes.as_slice() == text, "{rank}");
     }

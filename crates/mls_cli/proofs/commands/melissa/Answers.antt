@@ -1,5 +1,4 @@
 -- What the answer says of what is right.
-use Rattle.std.proofs.Common.{map, string_bytes}
 use Rattle.mls_result.specs.declared.status.Status.TheVariants as status
 use Rattle.mls_cli.proofs.commands.melissa.Goals as goal
 use Rattle.mls_cli.proofs.Exactness.{exact, completed}

@@ -1,8 +1,6 @@
 -- What the words ask for is answered.
-use Rattle.std.proofs.Common.{◌≡◌, ℕ, List, Option, None, Err, map, string_bytes, subst}
-use Rattle.mls_cli.specs.declared.words.Words.{Words}
+use Rattle.std.proofs.Common.{◌≡◌, ℕ, List, None, Err, map, string_bytes, subst}
 use Rattle.mls_cli.specs.declared.words.WordsFault.{WordsFault}
-use Rattle.mls_cli.specs.declared.words.WordsFault.TheVariants.{Usage}
 use Rattle.mls_cli.specs.Words.{words_of, Reads}
 use Rattle.mls_cli.proofs.commands.run.Goals as goal
 use Rattle.mls_cli.proofs.Agreeing.{answers_usage, answers_command}

@@ -1,5 +1,4 @@
 -- What a watch answers is right.
-use Rattle.std.proofs.Common.{sym}
 use Rattle.mls_model.specs.WatchText.{watch_text}
 use Rattle.mls_cli.proofs.watch.run_watch.Goals as goal
 use Rattle.mls_cli.proofs.Agreeing.{wrote_out}
