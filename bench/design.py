@@ -5,23 +5,10 @@ Makes a study in a folder of its own and prints its design three times with the 
 output to nowhere: for each run the seconds and the peak memory. `rt ci` first.
 """
 import os
-import subprocess
 import sys
 import tempfile
-import time
 
-HERE = os.path.dirname(os.path.abspath(__file__))
-PROGRAM = os.environ.get("MELISSA", os.path.join(HERE, "..", "crates", "melissa", "out", "melissa"))
-
-
-def run(words):
-    before = time.perf_counter()
-    child = subprocess.Popen([PROGRAM, *words], stdout=subprocess.DEVNULL)
-    _, status, usage = os.wait4(child.pid, 0)
-    seconds = time.perf_counter() - before
-    if status != 0:
-        sys.exit(f"the program ended with status {status}")
-    return seconds, usage.ru_maxrss * 1024
+from timing import run
 
 
 def main():
@@ -34,7 +21,7 @@ def main():
                 file.write(f'[[parameters]]\nname = "x{k}"\nlow = 0\nhigh = 4294967295\n')
         print(f"groups {groups} parameters {parameters}")
         for _ in range(3):
-            seconds, peak = run(["design", study])
+            seconds, peak = run("design", study)
             print(f"{seconds:.2f} s, peak {peak / 1e6:.1f} MB")
 
 

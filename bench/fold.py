@@ -1,26 +1,23 @@
 #!/usr/bin/env python3
-"""Times the proved program on a large tape: bench/fold.py [CELLS GROUPS PARAMETERS]
+"""Times the proved program on a large tape: bench/fold.py [CELLS GROUPS PARAMETERS] [all]
 
 Makes a study and a tape with one client lane (random samples from a fixed seed) in a folder of its own,
 folds it three times with the program that `rt ci` leaves, output to nowhere, and prints for each run the
-seconds, the nanoseconds per cell and group, and the peak memory beside the tape's size. `rt ci` first.
+seconds, the nanoseconds per cell and group, and the peak memory beside the tape's size. With `all` the study
+shows all statistics and has three thresholds; without, power alone. `rt ci` first.
 """
 import os
 import random
-import resource
 import struct
-import subprocess
 import sys
 import tempfile
-import time
 
-HERE = os.path.dirname(os.path.abspath(__file__))
-PROGRAM = os.environ.get("MELISSA", os.path.join(HERE, "..", "crates", "melissa", "out", "melissa"))
+from timing import run
 
 
-def write_study(path, cells, groups, parameters):
+def write_study(path, cells, groups, parameters, shown):
     with open(path, "w") as study:
-        study.write(f'cells = {cells}\nsteps = 1\ngroups = {groups}\nstatistics = ["power"]\n')
+        study.write(f"cells = {cells}\nsteps = 1\ngroups = {groups}\n{shown}\n")
         for k in range(parameters):
             study.write(f'[[parameters]]\nname = "x{k}"\nlow = 0\nhigh = 65535\n')
 
@@ -37,26 +34,19 @@ def write_tape(path, cells, groups, parameters):
             tape.write(randomness.randbytes(2 * rows * cells))
 
 
-def run(study, tape):
-    before = time.perf_counter()
-    child = subprocess.Popen([PROGRAM, "fold", study, tape], stdout=subprocess.DEVNULL)
-    _, status, usage = os.wait4(child.pid, 0)
-    seconds = time.perf_counter() - before
-    if status != 0:
-        sys.exit(f"the program ended with status {status}")
-    return seconds, usage.ru_maxrss * 1024
-
-
 def main():
-    cells, groups, parameters = map(int, sys.argv[1:4]) if len(sys.argv) > 3 else (100_000, 200, 5)
+    everything = "all" in sys.argv[1:]
+    numbers = [int(word) for word in sys.argv[1:] if word != "all"]
+    cells, groups, parameters = numbers if len(numbers) == 3 else (100_000, 200, 5)
+    shown = "thresholds = [10000, 32768, 50000]" if everything else 'statistics = ["power"]'
     with tempfile.TemporaryDirectory() as folder:
         study, tape = os.path.join(folder, "study.toml"), os.path.join(folder, "tape")
-        write_study(study, cells, groups, parameters)
+        write_study(study, cells, groups, parameters, shown)
         write_tape(tape, cells, groups, parameters)
         size = os.path.getsize(tape)
         print(f"cells {cells} groups {groups} parameters {parameters} tape {size / 1e6:.1f} MB")
         for _ in range(3):
-            seconds, peak = run(study, tape)
+            seconds, peak = run("fold", study, tape)
             each = seconds * 1e9 / (cells * groups)
             print(f"{seconds:.3f} s, {each:.1f} ns per cell and group, peak {peak / 1e6:.1f} MB")
 

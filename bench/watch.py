@@ -7,13 +7,10 @@ and prints for each run the seconds and the peak memory. `rt ci` first.
 """
 import os
 import random
-import subprocess
 import sys
 import tempfile
-import time
 
-HERE = os.path.dirname(os.path.abspath(__file__))
-PROGRAM = os.environ.get("MELISSA", os.path.join(HERE, "..", "crates", "melissa", "out", "melissa"))
+from timing import run
 
 
 def write_study(path, groups):
@@ -35,16 +32,6 @@ def write_events(path, groups, events, ticks):
                 file.write(f"beat {randomness.randrange(groups)} 1 {now}\n")
 
 
-def run(words):
-    before = time.perf_counter()
-    child = subprocess.Popen([PROGRAM, *words], stdout=subprocess.DEVNULL)
-    _, status, usage = os.wait4(child.pid, 0)
-    seconds = time.perf_counter() - before
-    if status != 0:
-        sys.exit(f"the program ended with status {status}")
-    return seconds, usage.ru_maxrss * 1024
-
-
 def main():
     groups, events, ticks = map(int, sys.argv[1:4]) if len(sys.argv) > 3 else (65_535, 100_000, 1_000)
     with tempfile.TemporaryDirectory() as folder:
@@ -53,7 +40,7 @@ def main():
         write_events(file, groups, events, ticks)
         print(f"groups {groups} events {events} ticks {ticks}")
         for _ in range(3):
-            seconds, peak = run(["watch", study, file])
+            seconds, peak = run("watch", study, file)
             print(f"{seconds:.2f} s, peak {peak / 1e6:.1f} MB")
 
 
