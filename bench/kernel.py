@@ -124,8 +124,8 @@ fn row_of(seed: u32) -> Row {
 
 fn add_pairs(martinez: &mut Martinez, one: &Row, other: &Row) {
     for _ in 0..32_767u32 {
-        martinez.add(one);
-        martinez.add(other);
+        martinez.add(std::hint::black_box(one));
+        martinez.add(std::hint::black_box(other));
     }
 }
 
