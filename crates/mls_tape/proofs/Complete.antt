@@ -12,7 +12,7 @@ use Rattle.mls_tape.proofs.Plain.{share, shares, plain_start}
 
 -- ---- tests
 
-both : (a b : Bool) → a ≡ true → b ≡ true → (a && b) ≡ true
+pub both : (a b : Bool) → a ≡ true → b ≡ true → (a && b) ≡ true
 both a b e1 e2 = rw (e1, e2) refl
 
 first_of_both : (a b : Bool) → (a && b) ≡ true → a ≡ true
@@ -29,11 +29,11 @@ times_more : (b : Bool) (m n r : ℕ) → m ≡ n + r → cond b (suc m) m ≡ c
 times_more true m n r e = omega arith
 times_more false m n r e = e
 
-times_up : (b : Bool) (n : ℕ) → n ≤ cond b (suc n) n
+pub times_up : (b : Bool) (n : ℕ) → n ≤ cond b (suc n) n
 times_up true n = omega arith
 times_up false n = omega arith
 
-times-append : (k : ℕ) (xs ys : List ℕ) → times k (xs ++ ys) ≡ times k xs + times k ys
+pub times-append : (k : ℕ) (xs ys : List ℕ) → times k (xs ++ ys) ≡ times k xs + times k ys
 times-append k [] ys = omega arith
 times-append k (x ∷ xs) ys = times_more (eqb x k) (times k (xs ++ ys)) (times k xs) (times k ys) (times-append k xs ys)
 
@@ -46,7 +46,7 @@ times_other k j zero ne = refl
 times_other k j (suc n) ne = rw (ne_eqb j k ne) (times_other k j n ne)
 
 -- a test that holds of each number that stands in a list
-all_standing : (p : ℕ → Bool) (xs : List ℕ) → ((k : ℕ) → 1 ≤ times k xs → p k ≡ true) → list_all p xs ≡ true
+pub all_standing : (p : ℕ → Bool) (xs : List ℕ) → ((k : ℕ) → 1 ≤ times k xs → p k ≡ true) → list_all p xs ≡ true
 all_standing p [] h = refl
 all_standing p (x ∷ xs) h = both (p x) (list_all p xs) (h x (rw (eq-eqb x x refl) (omega arith))) (all_standing p xs (λ k some. h k (omega (arith, times_up (eqb x k) (times k xs)))))
 
@@ -100,7 +100,7 @@ plain_order_legal lanes rank = all_standing (λ k. is_lane_of lanes rank k && le
 
 -- ---- all ranks
 
-length-below : (n : ℕ) → length (below n) ≡ n
+pub length-below : (n : ℕ) → length (below n) ≡ n
 length-below zero = refl
 length-below (suc n) = omega (arith, length-append (below n) (n ∷ []), length-below n)
 
@@ -111,7 +111,7 @@ element_push (z ∷ xs) y x zero e = inl e
 element_push (z ∷ xs) y x (suc j) e =
     elim (element_push xs y x j e) [ inl h ↦ inl h | inr h ↦ inr (ap suc h.0, h.1) ]
 
-element_below : {A : Type 0} (f : ℕ → A) (n j : ℕ) (x : A) → element (map f (below n)) j ≡ Some x → (j < n) × (x ≡ f j)
+pub element_below : {A : Type 0} (f : ℕ → A) (n j : ℕ) (x : A) → element (map f (below n)) j ≡ Some x → (j < n) × (x ≡ f j)
 element_below f zero j x e = absurd cc
 element_below f (suc n) j x e =
     let pushed : element (map f (below n) ++ f n ∷ []) j ≡ Some x = ap (λ xs. element xs j) (sym (map_push f (below n) n)) ∙ e in
@@ -121,7 +121,7 @@ element_below f (suc n) j x e =
     ]
 
 -- a test that holds of each element with its place
-all_placed : {A : Type 0} (q : ℕ × A → Bool) (xs : List A) (o : ℕ) → ((j : ℕ) (x : A) → element xs j ≡ Some x → q (o + j, x) ≡ true) → list_all q (enumerate_from o xs) ≡ true
+pub all_placed : {A : Type 0} (q : ℕ × A → Bool) (xs : List A) (o : ℕ) → ((j : ℕ) (x : A) → element xs j ≡ Some x → q (o + j, x) ≡ true) → list_all q (enumerate_from o xs) ≡ true
 all_placed q [] o h = refl
 all_placed q (x ∷ xs) o h =
     let here : o + 0 ≡ o = omega arith in

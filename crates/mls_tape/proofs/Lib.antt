@@ -5,3 +5,10 @@ pub mod Tables
 pub mod Entries
 pub mod Plain
 pub mod Complete
+pub mod ScheduleNumbers
+pub mod Passing
+pub mod ScheduleRun
+pub mod ScheduleText
+pub mod Legal
+pub mod ReadBack
+pub mod Decided

@@ -1,10 +1,10 @@
-//! Why bytes are no tape.
+//! Why bytes are no tape, or no schedule of one.
 
 ghost use Rattle.std.specs.Prelude.{◌≡◌};
 ghost use Rattle.mls_tape.specs.declared.faults.TapeFault.TheVariants.{Memory};
 
 use mls_base::faults::NoMemory;
-use mls_model::lanes::TapeWhy;
+use mls_model::lanes::{SchedWhy, TapeWhy};
 use std::alloc::{AllocError, AllocFailed};
 
 /// Why a tape could not be read.
@@ -36,5 +36,35 @@ impl From<NoMemory> for TapeFault {
 
     fn from(_e: NoMemory) -> TapeFault {
         TapeFault::Memory
+    }
+}
+
+/// Why a schedule could not be read.
+#[derive(Debug, Drop)]
+pub enum SchedFault {
+    /// The first line that is refused, numbered from 1.
+    Bad { line: u32, why: SchedWhy },
+    Memory,
+}
+
+impl From<AllocError> for SchedFault {
+    ghost use Rattle.std.specs.Prelude.{◌≡◌};
+    ghost use Rattle.mls_tape.specs.declared.faults.SchedFault.TheVariants as sched;
+
+    ghost from_gives = { λ _ e. e ≡ sched.Memory };
+
+    fn from(_e: AllocError) -> SchedFault {
+        SchedFault::Memory
+    }
+}
+
+impl From<NoMemory> for SchedFault {
+    ghost use Rattle.std.specs.Prelude.{◌≡◌};
+    ghost use Rattle.mls_tape.specs.declared.faults.SchedFault.TheVariants as sched;
+
+    ghost from_gives = { λ _ e. e ≡ sched.Memory };
+
+    fn from(_e: NoMemory) -> SchedFault {
+        SchedFault::Memory
     }
 }

@@ -1,11 +1,13 @@
 //! What holds of lanes and schedules.
 
-ghost use Rattle.std.specs.Prelude.{◌≡◌, ℕ, ◌<◌, true, List, length, Some};
+ghost use Rattle.std.specs.Prelude.{◌≡◌, ℕ, ◌^◌, ◌<◌, ◌≤◌, true, List, length, Some, Ok, Err};
 ghost use Rattle.std.specs.List.{AllByRecursion};
 ghost use Rattle.mls_model.specs.Numbers.{element};
 ghost use Rattle.mls_model.specs.Frames.{Frame};
 ghost use Rattle.mls_model.specs.Lanes.{Lane, AreLaneEvents, lane_frames, lane_rest};
-ghost use Rattle.mls_model.specs.Schedules.{is_legal_order, is_legal, is_complete, plain};
+ghost use Rattle.mls_model.specs.Schedules.{is_legal_order, is_legal, is_complete, plain, schedule_text};
+ghost use Rattle.mls_tape.specs.ScheduleLines.{IsScheduleOf, IsRefusedAt};
+ghost use Rattle.mls_tape.specs.ScheduleReading.{LineRefusal, schedule_of};
 ghost use Rattle.mls_frame.specs.Views.{AreBytes};
 
 /// A lane's bytes have one longest list of frames.
@@ -32,4 +34,21 @@ pub fn legal_schedules_have_legal_orders()
         is_legal ranks lanes orders ≡ true → element orders rank ≡ Some order → is_legal_order lanes rank order ≡ true }
     ensures count { (ranks : ℕ) (lanes : List Lane) (orders : List (List ℕ)) → is_legal ranks lanes orders ≡ true →
         length orders ≡ ranks }
+{}
+
+/// The text of a legal schedule is read as that schedule.
+pub fn schedule_text_is_read()
+    ensures { (ranks : ℕ) (lanes : List Lane) (orders : List (List ℕ)) → ranks ≤ 2 ^ 32 → length lanes ≤ 2 ^ 32 →
+        is_legal ranks lanes orders ≡ true → schedule_of ranks lanes (schedule_text orders) ≡ Ok orders }
+{}
+
+/// Bytes are lines that all pass, and their lists are a legal schedule; or the line that is refused is the first that
+/// fails, for its reason.
+pub fn schedules_are_legal_or_refused()
+    ensures read { (ranks : ℕ) (lanes : List Lane) (bytes : List ℕ) (orders : List (List ℕ)) →
+        schedule_of ranks lanes bytes ≡ Ok orders → IsScheduleOf ranks lanes bytes orders }
+    ensures legal { (ranks : ℕ) (lanes : List Lane) (bytes : List ℕ) (orders : List (List ℕ)) →
+        schedule_of ranks lanes bytes ≡ Ok orders → is_legal ranks lanes orders ≡ true }
+    ensures refused { (ranks : ℕ) (lanes : List Lane) (bytes : List ℕ) (refusal : LineRefusal) →
+        schedule_of ranks lanes bytes ≡ Err refusal → IsRefusedAt ranks lanes bytes refusal.line refusal.why }
 {}

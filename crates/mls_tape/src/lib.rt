@@ -4,6 +4,7 @@
 pub mod decoded;
 pub mod faults;
 pub mod laws;
+mod lines;
 mod part;
 mod scanning;
 pub mod schedule;
@@ -11,7 +12,7 @@ mod table;
 pub mod tape;
 
 pub use decoded::{Decoded, Lanes};
-pub use faults::TapeFault;
+pub use faults::{SchedFault, TapeFault};
 pub use mls_model::lanes::{LaneEnd, LaneKind, LaneLine, SchedWhy, TapeWhy};
 pub use schedule::Schedule;
 pub use tape::Tape;

@@ -1,9 +1,14 @@
 //! Schedules: for each rank the order in which it takes its lanes' events.
 
-ghost use Rattle.std.specs.Prelude.{◌≡◌, ℕ, ◌<◌, ◌++◌, List, length, map, replicate, Some, IfOk, OnOk};
+ghost use Rattle.std.specs.Prelude.{◌≡◌, ℕ, ◌<◌, ◌≤◌, ◌++◌, List, length, map, replicate, true, Some, Ok, IfOk, IfErr, OnOk, MatchResult};
 ghost use Rattle.mls_model.specs.Numbers.{element};
-ghost use Rattle.mls_model.specs.Schedules.{plain, plain_order};
+ghost use Rattle.mls_model.specs.Schedules.{is_legal, plain, plain_order, schedule_text};
+ghost use Rattle.mls_tape.specs.ScheduleLines.{IsScheduleOf};
+ghost use Rattle.mls_tape.specs.ScheduleFaults.{IsRefused, IsExact};
+ghost use Rattle.mls_tape.specs.ScheduleReading.{schedule_of};
 
+use crate::faults::SchedFault;
+use crate::lines::{add_order, read_lists};
 use crate::tape::Tape;
 use mls_base::faults::NoMemory;
 use std::alloc::Global;
@@ -85,5 +90,30 @@ impl Schedule {
             }
         }
         Ok(Schedule { lists })
+    }
+
+    /// The schedule of the tape that the bytes are: lines `RANK LANE`. `Bad` has the first line that is refused,
+    /// numbered from 1, and why: it is no line, there is no such rank, no such lane of the rank, or the lane stands
+    /// oftener than it has events. Of at most 268,435,456 bytes.
+    pub fn read(alloc: Global, bytes: &[u8], tape: &Tape) -> Result<Schedule, SchedFault>
+        requires { length bytes.now ≤ 268435456 }
+        ensures read { IfOk result (λ s. IsScheduleOf tape.now.ranks tape.now.lanes bytes.now s) }
+        ensures legal { IfOk result (λ s. is_legal tape.now.ranks tape.now.lanes s ≡ true) }
+        ensures refused { IfErr result (λ fault. IsRefused fault tape.now.ranks tape.now.lanes bytes.now) }
+        ensures exact { MatchResult result (λ s. schedule_of tape.now.ranks tape.now.lanes bytes.now ≡ Ok s) (λ fault. IsExact fault (schedule_of tape.now.ranks tape.now.lanes bytes.now)) }
+    {
+        let lists = read_lists(alloc, bytes, tape)?;
+        Ok(Schedule { lists })
+    }
+
+    /// The schedule's text: rank 0's lines, then rank 1's, and so on.
+    pub fn put(&self, alloc: Global) -> Result<Vec<u8>, NoMemory>
+        ensures { IfOk result (λ text. text.items ≡ schedule_text self.now) }
+    {
+        let mut text = Vec::new(alloc);
+        for (rank, order) in self.lists.iter().enumerate() {
+            add_order(&mut text, rank, order.as_slice())?;
+        }
+        Ok(text)
     }
 }

@@ -163,3 +163,57 @@ fn no_lane(rt: HostRuntime) -> Result<(), Fail> {
     assert_eq!(rt; tape.lane_count(), 0);
     Ok(())
 }
+
+/// Reads a schedule of TWO_GROUPS for so many ranks.
+fn schedule(alloc: Global, ranks: u32, bytes: &[u8]) -> Result<Schedule, SchedFault>
+    requires { length bytes.now ≤ 1000 }
+{
+    match read(alloc, ranks, false, &TWO_GROUPS) {
+        Ok(tape) => Schedule::read(alloc, bytes, &tape),
+        Err(_) => Err(SchedFault::Memory),
+    }
+}
+
+#[test]
+fn refused_schedules(rt: HostRuntime) {
+    let table: [(u32, &[u8], u32, SchedWhy); 9] = [
+        (1, b"0 0\n0 0\n0 0\n", 3, SchedWhy::Count),
+        (1, b"0 00\n", 1, SchedWhy::Form),
+        (1, b"1 0\n", 1, SchedWhy::Rank),
+        (1, b"0 1\n", 1, SchedWhy::Lane),
+        (2, b"1 0\n", 1, SchedWhy::Lane),
+        (1, b"0 0\n0 0", 2, SchedWhy::Form),
+        (1, b"0 0\n\n", 2, SchedWhy::Form),
+        (1, b"0  0\n", 1, SchedWhy::Form),
+        (1, b"0 4294967296\n", 1, SchedWhy::Form),
+    ];
+    for (ranks, bytes, number, reason) in table {
+        match schedule(rt.alloc(), ranks, bytes) {
+            Err(SchedFault::Bad { line, why }) => {
+                assert_eq!(rt; line, number);
+                assert_eq!(rt; why, reason);
+            }
+            _ => assert!(rt; false),
+        }
+    }
+}
+
+#[test]
+fn legal_schedules(rt: HostRuntime) -> Result<(), Fail> {
+    let table: [&[u8]; 3] = [b"", b"0 0\n", b"0 0\n0 0\n"];
+    for bytes in table {
+        let schedule = schedule(rt.alloc(), 2, bytes).ok().ok_or("a schedule")?;
+        assert_eq!(rt; schedule.ranks(), 2);
+        let text = schedule.put(rt.alloc()).ok().ok_or("memory")?;
+        assert_eq!(rt; text.as_slice(), bytes);
+    }
+    Ok(())
+}
+
+#[test]
+fn lists_of_two_ranks(rt: HostRuntime) -> Result<(), Fail> {
+    let lists = vec![in rt.alloc(); vec![in rt.alloc(); 2u32, 0]?, vec![in rt.alloc(); 1u32]?]?;
+    let text = Schedule::of(lists).put(rt.alloc()).ok().ok_or("memory")?;
+    assert_eq!(rt; text.as_slice(), b"0 2\n0 0\n1 1\n".as_slice());
+    Ok(())
+}

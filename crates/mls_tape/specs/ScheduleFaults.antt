@@ -1,0 +1,17 @@
+-- Why bytes are no legal schedule of a tape.
+use Rattle.std.specs.Prelude.{◌≡◌, ℕ, List, Result, Err}
+use Rattle.mls_model.specs.Lanes.{Lane}
+use Rattle.mls_tape.specs.declared.faults.SchedFault.{SchedFault}
+use Rattle.mls_tape.specs.declared.faults.SchedFault.TheVariants.{Bad, Memory}
+use Rattle.mls_tape.specs.ScheduleLines.{IsRefusedAt}
+use Rattle.mls_tape.specs.ScheduleReading.{LineRefusal}
+
+-- the first line that is refused with its reason, or want of memory
+abbrev pub IsRefused : SchedFault → ℕ → List Lane → List ℕ → Type 0
+IsRefused (Bad line why) ranks lanes bytes = IsRefusedAt ranks lanes bytes line why
+IsRefused Memory ranks lanes bytes = Unit {0}
+
+-- the fault is what reading the bytes gives
+abbrev pub IsExact : {A : Type 0} → SchedFault → Result A LineRefusal → Type 0
+IsExact (Bad line why) right = right ≡ Err (record { line = line; why = why })
+IsExact Memory right = Unit {0}
