@@ -21,7 +21,7 @@ use Rattle.mls_cli.specs.declared.steps.Refusal.{Refusal}
 use Rattle.mls_cli.specs.declared.steps.Refusal.TheVariants as refusal
 use Rattle.mls_cli.specs.Answers.{Answers, fold_status, out_status}
 use Rattle.mls_cli.specs.Words.{words_of}
-use Rattle.mls_cli.specs.Ideal.{◌>>=◌, command_or_usage, right_study, right_lanes, right_events, right_fold, right_design, right_watch, right_command, ideal}
+use Rattle.mls_cli.specs.Ideal.{◌>>=◌, command_or_usage, right_study, right_lanes, right_events, right_schedule, right_fold, right_scheduled, right_design, right_watch, right_command, ideal}
 use Rattle.mls_cli.specs.Refusals.{status_of, IsRefused, Agrees}
 
 -- a refusal of the first step is one of both
@@ -30,6 +30,7 @@ refused_first refusal.ReadFault right next is = tt
 refused_first refusal.Memory right next is = tt
 refused_first (refusal.Study fault) right next is = ap (λ o. o >>= next) is
 refused_first (refusal.Tape at why) right next is = ap (λ o. o >>= next) is
+refused_first (refusal.Schedule line why) right next is = ap (λ o. o >>= next) is
 refused_first (refusal.NotBuilt part) right next is = ap (λ o. o >>= next) is
 refused_first (refusal.TooLong file) right next is = ap (λ o. o >>= next) is
 refused_first (refusal.Events line) right next is = ap (λ o. o >>= next) is
@@ -54,6 +55,26 @@ pub fold_of : (held : Names) (study_name tape_name : List ℕ) (study : Study) (
 unfolding right_fold
 fold_of held study_name tape_name study lanes first second = rw (first, second) refl
 
+-- ---- the three files of a fold under a schedule
+
+pub scheduled_refused_study : (held : Names) (study_name tape_name schedule_name : List ℕ) (r : Refusal) → IsRefused r (right_study held study_name) → IsRefused r (right_scheduled held study_name tape_name schedule_name)
+unfolding right_scheduled
+scheduled_refused_study held study_name tape_name schedule_name r is = refused_first r (right_study held study_name) _ is
+
+pub scheduled_refused_tape : (held : Names) (study_name tape_name schedule_name : List ℕ) (r : Refusal) (study : Study) → right_study held study_name ≡ Ok study → IsRefused r (right_lanes held study tape_name) → IsRefused r (right_scheduled held study_name tape_name schedule_name)
+unfolding right_scheduled
+scheduled_refused_tape held study_name tape_name schedule_name r study first is = rw (first) (refused_first r (right_lanes held study tape_name) _ is)
+
+pub scheduled_refused_schedule : (held : Names) (study_name tape_name schedule_name : List ℕ) (r : Refusal) (study : Study) (lanes : List Lane) (ranks : ℕ) → ranks ≡ study.sizes.ranks → right_study held study_name ≡ Ok study → right_lanes held study tape_name ≡ Ok lanes → IsRefused r (right_schedule held ranks lanes schedule_name) → IsRefused r (right_scheduled held study_name tape_name schedule_name)
+unfolding right_scheduled
+scheduled_refused_schedule held study_name tape_name schedule_name r study lanes ranks same first second is =
+    let own : IsRefused r (right_schedule held study.sizes.ranks lanes schedule_name) = subst (λ (n : ℕ). IsRefused r (right_schedule held n lanes schedule_name)) same is in
+    rw (first, second) (refused_first r (right_schedule held study.sizes.ranks lanes schedule_name) _ own)
+
+pub scheduled_of : (held : Names) (study_name tape_name schedule_name : List ℕ) (study : Study) (lanes : List Lane) (orders : List (List ℕ)) → right_study held study_name ≡ Ok study → right_lanes held study tape_name ≡ Ok lanes → right_schedule held study.sizes.ranks lanes schedule_name ≡ Ok orders → right_scheduled held study_name tape_name schedule_name ≡ Ok (result_text study lanes orders)
+unfolding right_scheduled
+scheduled_of held study_name tape_name schedule_name study lanes orders first second third = rw (first, second, third) refl
+
 -- ---- the two files of a watch
 
 pub watch_refused_study : (held : Names) (study_name events_name : List ℕ) (r : Refusal) → IsRefused r (right_study held study_name) → IsRefused r (right_watch held study_name events_name)
@@ -75,6 +96,7 @@ refused_answers refusal.ReadFault right old is = refl
 refused_answers refusal.Memory right old is = refl
 refused_answers (refusal.Study fault) right old is = (is, refl)
 refused_answers (refusal.Tape at why) right old is = (is, refl)
+refused_answers (refusal.Schedule line why) right old is = (is, refl)
 refused_answers (refusal.NotBuilt part) right old is = (is, refl)
 refused_answers (refusal.TooLong file) right old is = (is, refl)
 refused_answers (refusal.Events line) right old is = (is, refl)

@@ -11,6 +11,7 @@ use Rattle.mls_model.specs.Designs.{design_text}
 use Rattle.mls_study.specs.declared.fault.StudyFault.{StudyFault}
 use Rattle.mls_study.specs.StudyFile.{study_of}
 use Rattle.mls_launch.specs.EventReading.{events_of}
+use Rattle.mls_tape.specs.ScheduleReading.{LineRefusal, schedule_of}
 use Rattle.mls_result.specs.declared.status.Status.{Status}
 use Rattle.mls_result.specs.declared.status.Status.TheVariants as status
 use Rattle.mls_result.specs.declared.status.FileRole.{FileRole}
@@ -27,12 +28,15 @@ abbrev pub ◌>>=◌ : {A B : Type 0} → Result A Status → (A → Result B St
 (Ok x) >>= f = f x
 (Err e) >>= f = Err e
 
--- the most bytes of a study, of a tape and of an events file
+-- the most bytes of a study, of a tape, of a schedule and of an events file
 abbrev pub study_limit : ℕ
 study_limit = 65536
 
 abbrev pub tape_limit : ℕ
 tape_limit = 1073741824
+
+abbrev pub schedule_limit : ℕ
+schedule_limit = 268435456
 
 abbrev pub events_limit : ℕ
 events_limit = 16777216
@@ -49,6 +53,10 @@ study_answer (Err fault) = Err (status.Study fault)
 abbrev pub tape_answer : Result (List Lane) TapeRefusal → Result (List Lane) Status
 tape_answer (Ok lanes) = Ok lanes
 tape_answer (Err refusal) = Err (status.Tape refusal.at refusal.why)
+
+abbrev pub schedule_answer : Result (List (List ℕ)) LineRefusal → Result (List (List ℕ)) Status
+schedule_answer (Ok orders) = Ok orders
+schedule_answer (Err refusal) = Err (status.Schedule refusal.line refusal.why)
 
 abbrev pub events_answer : Result (List Event) ℕ → Result (List Event) Status
 events_answer (Ok events) = Ok events
@@ -69,6 +77,10 @@ content_study bytes = study_answer (study_of bytes)
 abbrev pub content_lanes : Study → List ℕ → Result (List Lane) Status
 content_lanes study bytes = tape_answer (tape_of study.sizes.ranks study.sizes.signed bytes) >>= built_tape
 
+-- the lists of the legal schedule of such ranks and lanes that bytes spell
+abbrev pub content_schedule : ℕ → List Lane → List ℕ → Result (List (List ℕ)) Status
+content_schedule ranks lanes bytes = schedule_answer (schedule_of ranks lanes bytes)
+
 -- the events that bytes spell
 abbrev pub content_events : List ℕ → Result (List Event) Status
 content_events bytes = events_answer (events_of bytes)
@@ -81,6 +93,10 @@ right_study files name = limited role.Study study_limit (files name) >>= content
 unfoldable pub right_lanes : Names → Study → List ℕ → Result (List Lane) Status
 right_lanes files study name = limited role.Tape tape_limit (files name) >>= content_lanes study
 
+-- the lists of the schedule of a name
+unfoldable pub right_schedule : Names → ℕ → List Lane → List ℕ → Result (List (List ℕ)) Status
+right_schedule files ranks lanes name = limited role.Schedule schedule_limit (files name) >>= content_schedule ranks lanes
+
 -- the events of a name
 unfoldable pub right_events : Names → List ℕ → Result (List Event) Status
 right_events files name = limited role.Events events_limit (files name) >>= content_events
@@ -91,6 +107,14 @@ right_fold files study_name tape_name = do
   study ← right_study files study_name
   lanes ← right_lanes files study tape_name
   Ok (result_text study lanes (plain study.sizes.ranks lanes))
+
+-- the text of a fold under a schedule that has a name
+unfoldable pub right_scheduled : Names → (study tape schedule : List ℕ) → Result (List ℕ) Status
+right_scheduled files study_name tape_name schedule_name = do
+  study ← right_study files study_name
+  lanes ← right_lanes files study tape_name
+  orders ← right_schedule files study.sizes.ranks lanes schedule_name
+  Ok (result_text study lanes orders)
 
 -- the text of a design
 unfoldable pub right_design : Names → (study : List ℕ) → Result (List ℕ) Status
@@ -106,7 +130,7 @@ right_watch files study_name events_name = do
 -- what a command asks for
 abbrev pub right_command : Names → Words → Result (List ℕ) Status
 right_command files (words.Fold study tape None) = right_fold files study tape
-right_command files (words.Fold study tape (Some schedule)) = not_built part.Schedule
+right_command files (words.Fold study tape (Some schedule)) = right_scheduled files study tape schedule
 right_command files (words.Watch study events) = right_watch files study events
 right_command files (words.Design study) = right_design files study
 right_command files (words.Trial study number saved) = not_built part.Command
@@ -119,7 +143,7 @@ command_or_usage None = Err status.Usage
 command_or_usage (Some command) = Ok command
 
 -- What words ask for: the text, or the first refusal in this order: that they are no command, that the study, then the tape or the
--- events are refused or not built.
+-- events are refused or not built, then that the schedule is refused.
 unfoldable pub ideal : Names → List (List ℕ) → Result (List ℕ) Status
 ideal files words = do
   command ← command_or_usage (words_of words)

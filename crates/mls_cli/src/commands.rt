@@ -3,6 +3,7 @@
 ghost use Rattle.std.specs.Prelude.{◌≡◌, ◌↔◌, ◌⊎◌, ℕ, map, string_bytes, vec_len, None, Some};
 ghost use Rattle.mls_base.specs.Told.{Names, Rose};
 ghost use Rattle.mls_study.specs.declared.fault.StudyFault.{StudyFault};
+ghost use Rattle.mls_model.specs.declared.lanes.SchedWhy.{SchedWhy};
 ghost use Rattle.mls_model.specs.declared.lanes.TapeWhy.{TapeWhy};
 ghost use Rattle.mls_result.specs.declared.status.FileRole.{FileRole};
 ghost use Rattle.mls_result.specs.declared.status.Part.{Part};
@@ -11,7 +12,7 @@ ghost use Rattle.mls_cli.specs.Ideal.{right_command, ideal};
 ghost use Rattle.mls_cli.specs.Answers.{Answers, Exactly, IsQuiet, IsRight};
 
 use crate::design::run_design;
-use crate::fold::run_fold;
+use crate::fold::{run_fold, run_scheduled};
 use crate::watch::run_watch;
 use crate::words::{Words, WordsFault, read_words};
 use mls_base::outside::{Files, Keeper, Sink};
@@ -39,15 +40,19 @@ fn carry_out<F: Files, O: Sink, K: Keeper + Drop>(
         Words::Fold {
             study,
             tape,
-            schedule: None,
-        } => return run_fold(alloc, study.as_str(), tape.as_str(), files, out, keepers),
-        Words::Fold {
-            schedule: Some(_),
-            ..
-        } => {
-            let part = Part::Schedule;
-            return (Status::NotBuilt { part }, keepers);
-        }
+            schedule,
+        } => match schedule {
+            None => return run_fold(alloc, study.as_str(), tape.as_str(), files, out, keepers),
+            Some(schedule) => return run_scheduled(
+                alloc,
+                study.as_str(),
+                tape.as_str(),
+                schedule.as_str(),
+                files,
+                out,
+                keepers,
+            ),
+        },
         Words::Watch { study, events } => {
             let status = run_watch(alloc, study.as_str(), events.as_str(), files, out);
             return (status, keepers);
@@ -111,6 +116,7 @@ pub fn melissa<F: Files, O: Sink, K: Keeper + Drop>(
     // Each refusal comes exactly where it is the first, but that memory may be wanting or a read may fail before.
     ensures study { (held : Names) → F.held files.old ≡ Some held → (fault : StudyFault) → Exactly (ideal held (map string_bytes words.now)) (Status.Study fault) result.0 }
     ensures tape { (held : Names) → F.held files.old ≡ Some held → (at : ℕ) (why : TapeWhy) → Exactly (ideal held (map string_bytes words.now)) (Status.Tape at why) result.0 }
+    ensures schedule { (held : Names) → F.held files.old ≡ Some held → (line : ℕ) (why : SchedWhy) → Exactly (ideal held (map string_bytes words.now)) (Status.Schedule line why) result.0 }
     ensures events { (held : Names) → F.held files.old ≡ Some held → (line : ℕ) → Exactly (ideal held (map string_bytes words.now)) (Status.Events line) result.0 }
     ensures too_long { (held : Names) → F.held files.old ≡ Some held → (file : FileRole) → Exactly (ideal held (map string_bytes words.now)) (Status.TooLong file) result.0 }
     ensures not_built { (held : Names) → F.held files.old ≡ Some held → (part : Part) → Exactly (ideal held (map string_bytes words.now)) (Status.NotBuilt part) result.0 }

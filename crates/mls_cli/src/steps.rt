@@ -3,8 +3,9 @@
 ghost use Rattle.std.specs.Prelude.{◌≡◌, ◌≤◌, ◌||◌, length, true, Some, Ok, Err, IfOk, IfErr, OnOk, MatchOption, MatchResult, vec_len, ⊤};
 ghost use Rattle.mls_base.specs.Told.{Names};
 ghost use Rattle.mls_result.specs.declared.status.Status.TheVariants as status;
+ghost use Rattle.mls_model.specs.Schedules.{is_legal};
 ghost use Rattle.mls_replay.specs.Calm.{is_calm};
-ghost use Rattle.mls_cli.specs.Ideal.{limited, right_study, right_lanes, right_events, built_tape, content_study, content_lanes, content_events};
+ghost use Rattle.mls_cli.specs.Ideal.{limited, right_study, right_lanes, right_schedule, right_events, built_tape, content_study, content_lanes, content_schedule, content_events};
 ghost use Rattle.mls_cli.specs.Answers.{out_status};
 ghost use Rattle.mls_cli.specs.Refusals.{status_of, study_refusal, Agrees, Counts, IsOfContent};
 
@@ -14,7 +15,7 @@ use mls_launch::{Event, EventFault, OutFault, read_events};
 use mls_replay::is_calm;
 use mls_result::{FileRole, Part, Status};
 use mls_study::{Study, StudyFault, read_study};
-use mls_tape::{Tape, TapeFault, TapeWhy};
+use mls_tape::{SchedFault, SchedWhy, Schedule, Tape, TapeFault, TapeWhy};
 use std::alloc::Global;
 
 /// The most bytes of a study.
@@ -22,6 +23,9 @@ const STUDY_LIMIT: u64 = 65536;
 
 /// The most bytes of a tape.
 const TAPE_LIMIT: u64 = 1073741824;
+
+/// The most bytes of a schedule.
+const SCHEDULE_LIMIT: u64 = 268435456;
 
 /// The most bytes of an events file.
 const EVENTS_LIMIT: u64 = 16777216;
@@ -37,6 +41,8 @@ pub(crate) enum Refusal {
     Study(StudyFault),
     /// The tape's bytes are refused at a place.
     Tape { at: u64, why: TapeWhy },
+    /// The schedule's bytes are refused at a line.
+    Schedule { line: u32, why: SchedWhy },
     /// The events file is refused at a line.
     Events { line: u32 },
     /// The study or the tape asks for what is not built yet.
@@ -54,6 +60,7 @@ pub(crate) fn into_status(refusal: Refusal) -> Status
         Refusal::Memory => Status::Memory,
         Refusal::Study(fault) => Status::Study(fault),
         Refusal::Tape { at, why } => Status::Tape { at, why },
+        Refusal::Schedule { line, why } => Status::Schedule { line, why },
         Refusal::Events { line } => Status::Events { line },
         Refusal::NotBuilt { part } => Status::NotBuilt { part },
         Refusal::TooLong { file } => Status::TooLong { file },
@@ -176,6 +183,36 @@ pub(crate) fn load_tape<F: Files>(
 {
     let bytes = load(alloc, files, name, TAPE_LIMIT, FileRole::Tape)?;
     tape_in(alloc, study, bytes)
+}
+
+/// The schedule in these bytes.
+fn schedule_in(alloc: Global, tape: &Tape, bytes: &[u8]) -> Result<Schedule, Refusal>
+    requires { length bytes.now ≤ 268435456 }
+    ensures right { Agrees (λ s. s) result (content_schedule tape.now.ranks tape.now.lanes bytes.now) }
+    ensures legal { IfOk result (λ s. is_legal tape.now.ranks tape.now.lanes s ≡ true) }
+    ensures content { IfErr result IsOfContent }
+{
+    match Schedule::read(alloc, bytes, tape) {
+        Ok(schedule) => return Ok(schedule),
+        Err(SchedFault::Bad { line, why }) => return Err(Refusal::Schedule { line, why }),
+        Err(SchedFault::Memory) => return Err(Refusal::Memory),
+    }
+}
+
+/// The schedule of a name, for the tape.
+pub(crate) fn load_schedule<F: Files>(
+    alloc: Global,
+    files: &mut F,
+    tape: &Tape,
+    name: &str,
+) -> Result<Schedule, Refusal>
+    ensures right { (held : Names) → F.held files.old ≡ Some held → Agrees (λ s. s) result (right_schedule held tape.now.ranks tape.now.lanes name.now) }
+    ensures legal { IfOk result (λ s. is_legal tape.now.ranks tape.now.lanes s ≡ true) }
+    ensures loads { MatchResult result (λ _. F.load_faults files.new ≡ F.load_faults files.old) (λ r. Counts r (F.load_faults files.old) (F.load_faults files.new)) }
+    ensures saves { F.save_faults files.new ≡ F.save_faults files.old }
+{
+    let bytes = load(alloc, files, name, SCHEDULE_LIMIT, FileRole::Schedule)?;
+    schedule_in(alloc, tape, bytes.as_slice())
 }
 
 /// The events in these bytes.

@@ -290,6 +290,41 @@ fn all_statistics_are_printed(rt: HostRuntime) {
     assert!(rt; number == 0 && bytes.as_slice() == EVERYTHING_TEXT);
 }
 
+/// The number of the status of a fold over the study of two clients, and what the sink holds then.
+fn scheduled<'a>(
+    alloc: Global,
+    tape: &'a [u8],
+    schedule: &'a [u8],
+) -> Result<(u8, Vec<u8>), AllocError> {
+    let named = [
+        ("study", TWO_CLIENTS),
+        ("tape", tape),
+        ("schedule", schedule),
+    ];
+    let words = ["fold", "study", "tape", "schedule"];
+    let (status, bytes) = answer_of(alloc, &words, &named, Vec::new(alloc), 1000)?;
+    Ok((status.number(), bytes))
+}
+
+#[test]
+fn schedules_are_followed(rt: HostRuntime) {
+    let alloc = rt.alloc();
+    let tape = two_lanes(alloc, 0, OTHER_CLIENT).expect(&rt, "memory");
+    let cases = [
+        (b"0 0\n0 1\n".as_slice(), 0, TWO_CLIENTS_TEXT),
+        (b"0 1\n0 0\n", 0, TWO_CLIENTS_TEXT),
+        (b"0 0\n0 1\n0 0\n", 4, b"".as_slice()),
+        (b"0 00\n", 4, b""),
+        (b"1 0\n", 4, b""),
+        (b"0 2\n", 4, b""),
+        (b"0 1", 4, b""),
+    ];
+    for (schedule, status, text) in cases {
+        let (number, bytes) = scheduled(alloc, tape.as_slice(), schedule).expect(&rt, "memory");
+        assert!(rt; number == status && bytes.as_slice() == text, "{status}");
+    }
+}
+
 /// The tape of a lane of rank 0 with the first piece and one of a rank with another.
 fn two_lanes(alloc: Global, rank: u8, second: &[u8]) -> Result<Vec<u8>, AllocError> {
     let mut tape = Vec::new(alloc);
@@ -477,7 +512,7 @@ fn words_are_commands(rt: HostRuntime) {
         (&["fold", "s", "t", "u", "v"], 1),
         (&["--help"], 1),
         (&["folds", "s", "t"], 1),
-        (&["fold", "s", "t", "u"], 10),
+        (&["fold", "s", "t", "u"], 5),
         (&["fold", "s", "t"], 5),
         (&["design", "s"], 5),
         (&["design", "s", "t"], 1),

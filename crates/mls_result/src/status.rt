@@ -20,8 +20,6 @@ pub enum FileRole {
 pub enum Part {
     /// A command other than `fold`, `design` and `watch`.
     Command,
-    /// `fold` with a schedule.
-    Schedule,
     /// A tape with a save or a crash on a control lane.
     Control,
 }

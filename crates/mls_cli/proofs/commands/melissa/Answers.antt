@@ -9,6 +9,9 @@ returns-clause-study g c held told fault = exact _ _ _ _ (status.Study fault) tt
 pub returns-clause-tape : goal.returns-clause-tape
 returns-clause-tape g c held told at why = exact _ _ _ _ (status.Tape at why) tt (c.run.ensures.right held told)
 
+pub returns-clause-schedule : goal.returns-clause-schedule
+returns-clause-schedule g c held told line why = exact _ _ _ _ (status.Schedule line why) tt (c.run.ensures.right held told)
+
 pub returns-clause-events : goal.returns-clause-events
 returns-clause-events g c held told line = exact _ _ _ _ (status.Events line) tt (c.run.ensures.right held told)
 
