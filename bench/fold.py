@@ -1,54 +1,75 @@
 #!/usr/bin/env python3
-"""Times the proved program on a large tape: bench/fold.py [CELLS GROUPS PARAMETERS] [all]
+"""Times the proved program on a large tape: bench/fold.py [--cells N] [--steps N] [--groups N] [--parameters N]
+[--ranks N] [--clients N] [--all]
 
-Makes a study and a tape with one client lane (random samples from a fixed seed) in a folder of its own,
-folds it three times with the program that `rt ci` leaves, output to nowhere, and prints for each run the
-seconds, the nanoseconds per cell and group, and the peak memory beside the tape's size. With `all` the study
-shows all statistics and has three thresholds; without, power alone. `rt ci` first.
+Makes a study and a tape with one client lane for each rank and client that share cells (random samples from a fixed
+seed) in a folder of its own, folds it three times with the program that `rt ci` leaves, output to nowhere, and prints
+for each run the seconds, the nanoseconds per cell, step and group, and the peak memory beside the tape's size. With
+`--all` the study shows all statistics and has three thresholds; without, power alone. `rt ci` first.
 """
+import argparse
 import os
 import random
 import struct
-import sys
 import tempfile
 
 from timing import run
 
 
-def write_study(path, cells, groups, parameters, shown):
+def arguments():
+    parser = argparse.ArgumentParser()
+    for name, number in [("cells", 100_000), ("steps", 1), ("groups", 200), ("parameters", 5), ("ranks", 1), ("clients", 1)]:
+        parser.add_argument("--" + name, type=int, default=number)
+    parser.add_argument("--all", action="store_true")
+    return parser.parse_args()
+
+
+def write_study(path, options):
+    shown = "thresholds = [10000, 32768, 50000]" if options.all else 'statistics = ["power"]'
     with open(path, "w") as study:
-        study.write(f"cells = {cells}\nsteps = 1\ngroups = {groups}\n{shown}\n")
-        for k in range(parameters):
+        for key in ["cells", "steps", "groups", "ranks", "clients"]:
+            study.write(f"{key} = {getattr(options, key)}\n")
+        study.write(f"{shown}\n")
+        for k in range(options.parameters):
             study.write(f'[[parameters]]\nname = "x{k}"\nlow = 0\nhigh = 65535\n')
 
 
-def write_tape(path, cells, groups, parameters):
-    rows = parameters + 2
-    body = 25 + 2 * rows * cells
+def overlaps(options):
+    """The rank, the client, the first cell and the number of cells of each overlap that has cells."""
+    for rank in range(options.ranks):
+        for client in range(options.clients):
+            first = max(rank * options.cells // options.ranks, client * options.cells // options.clients)
+            end = min((rank + 1) * options.cells // options.ranks, (client + 1) * options.cells // options.clients)
+            if first < end:
+                yield rank, client, first, end - first
+
+
+def write_tape(path, options):
+    rows = options.parameters + 2
     randomness = random.Random(1)
+    lanes = list(overlaps(options))
     with open(path, "wb") as tape:
-        tape.write(b"MTAP" + struct.pack(">HI", 1, 1))
-        tape.write(struct.pack(">BHI", 0, 0, groups * (4 + body)))
-        for group in range(groups):
-            tape.write(struct.pack(">IBIIIHHII", body, 1, 1, group, 0, 0, rows, 0, cells))
-            tape.write(randomness.randbytes(2 * rows * cells))
+        tape.write(b"MTAP" + struct.pack(">HI", 1, len(lanes)))
+        for rank, client, first, count in lanes:
+            body = 25 + 2 * rows * count
+            tape.write(struct.pack(">BHI", 0, rank, options.groups * options.steps * (4 + body)))
+            for group in range(options.groups):
+                for step in range(options.steps):
+                    tape.write(struct.pack(">IBIIIHHII", body, 1, 1, group, step, client, rows, first, count))
+                    tape.write(randomness.randbytes(2 * rows * count))
 
 
 def main():
-    everything = "all" in sys.argv[1:]
-    numbers = [int(word) for word in sys.argv[1:] if word != "all"]
-    cells, groups, parameters = numbers if len(numbers) == 3 else (100_000, 200, 5)
-    shown = "thresholds = [10000, 32768, 50000]" if everything else 'statistics = ["power"]'
+    options = arguments()
     with tempfile.TemporaryDirectory() as folder:
         study, tape = os.path.join(folder, "study.toml"), os.path.join(folder, "tape")
-        write_study(study, cells, groups, parameters, shown)
-        write_tape(tape, cells, groups, parameters)
-        size = os.path.getsize(tape)
-        print(f"cells {cells} groups {groups} parameters {parameters} tape {size / 1e6:.1f} MB")
+        write_study(study, options)
+        write_tape(tape, options)
+        print(f"tape {os.path.getsize(tape) / 1e6:.1f} MB, {options}")
         for _ in range(3):
             seconds, peak = run("fold", study, tape)
-            each = seconds * 1e9 / (cells * groups)
-            print(f"{seconds:.3f} s, {each:.1f} ns per cell and group, peak {peak / 1e6:.1f} MB")
+            each = seconds * 1e9 / (options.cells * options.steps * options.groups)
+            print(f"{seconds:.3f} s, {each:.1f} ns per cell, step and group, peak {peak / 1e6:.1f} MB")
 
 
 main()
