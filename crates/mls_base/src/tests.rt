@@ -1,8 +1,8 @@
 //! What no clause says: that calls succeed with ample memory, and the limits of a shape.
 
 use crate::ends::{StdFiles, StdSink};
-use crate::faults::{Failed, LoadFault, StoreFault};
-use crate::memory::{AbsentKeeper, MemFiles, MemKeeper, MemSink};
+use crate::faults::{LoadFault, StoreFault};
+use crate::memory::{MemFiles, MemKeeper, MemSink};
 use crate::numbers::Numbers;
 use crate::outside::{Files, Keeper, Sink};
 use crate::put::{put_all, put_pieces};
@@ -320,9 +320,6 @@ fn keepers(rt: HostRuntime) {
     assert!(rt; keeper.held() == Some(b"one".as_slice()));
     let got = keeper.get(alloc).expect(&rt, "call 3").expect(&rt, "bytes");
     assert!(rt; got.as_slice() == b"one".as_slice());
-    let mut absent = AbsentKeeper::new();
-    assert_eq!(rt; absent.put(Vec::new(alloc)), Err(Failed));
-    assert!(rt; absent.get(alloc).is_err());
 }
 
 #[test]

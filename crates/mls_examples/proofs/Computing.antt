@@ -12,7 +12,8 @@ use Rattle.mls_model.specs.Outcomes.{piece_outcome, outcome, outcomes, tally, co
 use Rattle.mls_model.specs.AcceptedRows.{completions, accepted, sample_rows}
 use Rattle.mls_model.specs.Statistics.{variance_top, third_top, covariance}
 use Rattle.mls_model.specs.Designs.{drawn, word, word_of, values, design_line, group_lines, design_text, inputs, solve}
-use Rattle.mls_model.specs.ResultText.{study_line, rank_line, rank_lines, lane_line, lane_lines, step_line, power_line, variance_line, third_line, extrema_line, exceed_line, millionths_words, power_lines, extrema_lines, exceed_lines, rows_of, counts_of, lines_of}
+use Rattle.mls_model.specs.ResultText.{study_line, rank_line, rank_lines, lane_line, lane_lines, step_line, power_line, variance_line, third_line, extrema_line, exceed_words, exceed_line, millionths_words, power_lines, extrema_lines, exceed_lines, rows_of, counts_of, lines_of}
+use Rattle.mls_model.specs.SumsText.{sums_powers, sums_extrema}
 
 -- what the bytes of a frame, a lane and a tape are
 unfoldable pub of_bytes : Unit {0}
@@ -26,7 +27,7 @@ of_events = tt
 
 -- what is printed
 unfoldable pub of_texts : Unit {0}
-unfolding of_events digits schedule_text variance_top third_top covariance study_line rank_line rank_lines lane_line lane_lines step_line power_line variance_line third_line extrema_line exceed_line millionths_words power_lines extrema_lines exceed_lines lines_of
+unfolding of_events digits schedule_text variance_top third_top covariance study_line rank_line rank_lines lane_line lane_lines step_line power_line variance_line third_line extrema_line exceed_words exceed_line millionths_words power_lines extrema_lines exceed_lines lines_of sums_powers sums_extrema
 of_texts = tt
 
 -- what a design has

@@ -1,5 +1,5 @@
 -- What is said of samples that are all the same.
-use Rattle.std.specs.Prelude.{◌≡◌, ℕ, zero, suc, ◌+◌, ◌*◌, ◌-◌, List, [], ◌∷◌, ◌++◌, cond, replicate, ℤ, pos, ◌+ℤ◌, ◌-ℤ◌, ◌*ℤ◌, int_div, unsigned_abs, flat_map, codes, decimal}
+use Rattle.std.specs.Prelude.{◌≡◌, ℕ, zero, suc, ◌+◌, List, [], ◌∷◌, ◌++◌, cond, replicate, ℤ, pos, ◌+ℤ◌, ◌-ℤ◌, ◌*ℤ◌, int_div, unsigned_abs, flat_map, codes, decimal}
 use Rattle.std.specs.List.{enumerate_from}
 use Rattle.std.specs.Option.{option_map}
 use Rattle.std.specs.Fmt.{signed_decimal}
@@ -11,7 +11,7 @@ use Rattle.mls_model.specs.Statistics.{outputs, column, entry, deviation, size, 
 use Rattle.mls_model.specs.declared.studies.Statistic.TheVariants.{Power, Sobol}
 use Rattle.mls_model.specs.Studies.{Study, Parameter, shows}
 use Rattle.mls_model.specs.Indices.{rho6}
-use Rattle.mls_model.specs.ResultText.{power_line, variance_line, third_line, step_line, power_lines, extrema_lines, exceed_lines, index_lines, sobol_line, sobol_lines, index_words, cell_text}
+use Rattle.mls_model.specs.ResultText.{power_words, variance_words, third_words, power_line, variance_line, third_line, step_line, power_lines, extrema_lines, exceed_lines, index_lines, sobol_line, sobol_lines, index_words, cell_text}
 
 once_more : (n : ℕ) (z : ℤ) → z +ℤ (pos n *ℤ z) ≡ pos (suc n) *ℤ z
 once_more n z = +ℤ_comm z (pos n *ℤ z) ∙ sym (suc_ℤ-*ℤ (pos n) z)
@@ -37,9 +37,6 @@ size_of_equal n w = ap pos (length-replicate n w)
 no_deviation : (n : ℕ) (w : ℤ) → deviation (replicate n w) w ≡ pos 0
 no_deviation n w = (λ i. (size_of_equal n w i *ℤ w) -ℤ sum_of_equal (λ v. v) n w i) ∙ +ℤ_invr (pos n *ℤ w)
 
-abbrev pub power_words : ℤ → ℤ → ℤ → ℤ → List ℕ
-power_words p1 p2 p3 p4 = joined (codes "power " ∷ signed_decimal p1 ∷ codes " " ∷ signed_decimal p2 ∷ codes " " ∷ signed_decimal p3 ∷ codes " " ∷ signed_decimal p4 ∷ codes "\n" ∷ [])
-
 pub power_of_equal : (n : ℕ) (w : ℤ) → power_line (replicate (suc n) w) ≡ power_words (pos (suc n) *ℤ w) (pos (suc n) *ℤ square w) (pos (suc n) *ℤ cube w) (pos (suc n) *ℤ square (square w))
 unfolding power_line
 power_of_equal n w = λ i. power_words (sum_of_equal (λ v. v) (suc n) w i) (sum_of_equal square (suc n) w i) (sum_of_equal cube (suc n) w i) (sum_of_equal (λ v. square (square v)) (suc n) w i)
@@ -48,15 +45,9 @@ power_of_equal n w = λ i. power_words (sum_of_equal (λ v. v) (suc n) w i) (sum
 none_from_deviations : (f : ℤ → ℤ) (n : ℕ) (w : ℤ) → f (pos 0) ≡ pos 0 → sum_ints (λ v. f (deviation (replicate n w) v)) (replicate n w) ≡ pos 0
 none_from_deviations f n w none = sum_of_equal (λ v. f (deviation (replicate n w) v)) n w ∙ ap (λ z. pos n *ℤ f z) (no_deviation n w) ∙ ap (λ z. pos n *ℤ z) none ∙ *ℤ-zero (pos n)
 
-abbrev pub variance_words : ℤ → ℕ → List ℕ
-variance_words top n = joined (codes "variance " ∷ signed_decimal top ∷ codes "/" ∷ decimal (n * (n - 1)) ∷ codes "\n" ∷ [])
-
 pub variance_of_equal : (n : ℕ) (w : ℤ) → variance_line (replicate (suc n) w) ≡ variance_words (int_div (pos 0) (pos (suc n))) (suc n)
 unfolding variance_line variance_top
 variance_of_equal n w = λ i. variance_words (int_div (none_from_deviations square (suc n) w refl i) (size_of_equal (suc n) w i)) (length-replicate (suc n) w i)
-
-abbrev pub third_words : ℤ → ℕ → List ℕ
-third_words top n = joined (codes "third " ∷ signed_decimal top ∷ codes "/" ∷ decimal (n * (n * n)) ∷ codes "\n" ∷ [])
 
 pub third_of_equal : (n : ℕ) (w : ℤ) → third_line (replicate (suc n) w) ≡ third_words (int_div (pos 0) (pos (suc n))) (suc n)
 unfolding third_line third_top

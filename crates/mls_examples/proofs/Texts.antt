@@ -12,7 +12,7 @@ use Rattle.mls_model.specs.Studies.{Study, Parameter, plane_of, shows}
 use Rattle.mls_model.specs.Lanes.{Lane}
 use Rattle.mls_model.specs.Statistics.{column, covariance, variance}
 use Rattle.mls_model.specs.Indices.{millionths, rho6, signed_as}
-use Rattle.mls_model.specs.ResultText.{title, study_line, rank_lines, lane_lines, step_line, sobol_line, sobol_lines, index_lines, cell_text, field_text, step_text, cells_text, text_of, rows_of, counts_of, lines_of, result_text, index_words, power_lines, extrema_lines, exceed_lines}
+use Rattle.mls_model.specs.ResultText.{title, study_line, rank_lines, lane_lines, step_line, sobol_line, sobol_lines, index_lines, cell_text, field_text, step_text, cells_text, whole_text, rows_of, counts_of, lines_of, result_text, index_words, power_lines, extrema_lines, exceed_lines}
 use Rattle.mls_examples.proofs.Indices.{millionths_sought, millionths_by_tests}
 
 abbrev pub Finder : Type 0
@@ -46,7 +46,7 @@ abbrev pub result_by : Finder → Study → List Lane → List (List ℕ) → Li
 result_by find study lanes orders = text_by find study (counts_of study lanes orders) (lines_of lanes) (rows_of study lanes orders)
 
 by_millionths : (study : Study) (lanes : List Lane) (orders : List (List ℕ)) → result_text study lanes orders ≡ result_by millionths study lanes orders
-unfolding sobol_line sobol_lines index_lines cell_text field_text step_text cells_text text_of rho6 result_text
+unfolding sobol_line sobol_lines index_lines cell_text field_text step_text cells_text whole_text rho6 result_text
 by_millionths study lanes orders = refl
 
 pub by_tests : (study : Study) (lanes : List Lane) (orders : List (List ℕ)) → result_text study lanes orders ≡ result_by millionths_sought study lanes orders

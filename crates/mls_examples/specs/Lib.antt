@@ -7,4 +7,5 @@ pub mod Largest
 pub mod Fields
 pub mod Samples
 pub mod Studies
+pub mod Sums
 pub mod Designs

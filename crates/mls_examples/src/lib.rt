@@ -12,3 +12,4 @@ pub mod lanes;
 pub mod samples;
 pub mod statistics;
 pub mod studies;
+pub mod sums;

@@ -1,5 +1,5 @@
 -- Which groups are accepted at a rank, and the rows of samples that they give.
-use Rattle.std.specs.Prelude.{ℕ, ◌+◌, ◌-◌, ◌*◌, Bool, true, false, ◌&&◌, cond, List, [], ◌∷◌, ◌++◌, map, find, Option, Some, None, slice_index, ◌==◌, ℤ}
+use Rattle.std.specs.Prelude.{ℕ, ◌+◌, ◌-◌, ◌*◌, ◌&&◌, cond, List, [], ◌∷◌, ◌++◌, map, find, Some, None, slice_index, ◌==◌, ℤ}
 use Rattle.mls_model.specs.Numbers.{below}
 use Rattle.mls_model.specs.Places.{gathered}
 use Rattle.mls_model.specs.Studies.{Sizes}

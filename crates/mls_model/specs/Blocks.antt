@@ -1,5 +1,5 @@
 -- How the mesh is cut into the ranks' blocks and the clients' parts.
-use Rattle.std.specs.Prelude.{ℕ, zero, suc, ◌+◌, ◌*◌, ◌-◌, ◌/◌, Bool, ◌&&◌, cond, List, nat_lt, nat_le, min, max, Option, Some, None}
+use Rattle.std.specs.Prelude.{ℕ, ◌+◌, ◌*◌, ◌-◌, ◌/◌, Bool, ◌&&◌, nat_lt, nat_le, min, max, Option}
 use Rattle.std.specs.List.{find}
 use Rattle.mls_model.specs.declared.blocks.Span.{Span}
 use Rattle.mls_model.specs.Numbers.{below}

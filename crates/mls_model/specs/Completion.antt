@@ -1,5 +1,5 @@
 -- When a rank has a group's timestep whole. A place is a fitting piece with the fitting pieces before it.
-use Rattle.std.specs.Prelude.{ℕ, Bool, true, false, not, ◌&&◌, ◌||◌, List, [], ◌∷◌, ◌++◌, nat_lt, ◌==◌}
+use Rattle.std.specs.Prelude.{ℕ, Bool, not, ◌&&◌, ◌||◌, List, [], ◌∷◌, ◌++◌, nat_lt, ◌==◌}
 use Rattle.std.specs.List.{list_any, list_all}
 use Rattle.mls_model.specs.Numbers.{below}
 use Rattle.mls_model.specs.Places.{any_place}

@@ -1,5 +1,5 @@
 -- Which events are pieces that a rank takes, and why others are foreign to it.
-use Rattle.std.specs.Prelude.{ℕ, ◌+◌, Bool, true, false, not, ◌&&◌, cond, List, Option, Some, None, nat_lt, ◌==◌}
+use Rattle.std.specs.Prelude.{ℕ, ◌+◌, Bool, not, ◌&&◌, cond, List, Option, Some, None, nat_lt, ◌==◌}
 use Rattle.std.specs.List.{filter_map}
 use Rattle.mls_model.specs.declared.lanes.LaneKind.{LaneKind}
 use Rattle.mls_model.specs.declared.lanes.LaneKind.TheVariants.{Client, Control}
@@ -7,7 +7,7 @@ use Rattle.mls_model.specs.declared.outcomes.Reason.{Reason}
 use Rattle.mls_model.specs.declared.outcomes.Reason.TheVariants as reason
 use Rattle.mls_model.specs.Studies.{Sizes, planes}
 use Rattle.mls_model.specs.Blocks.{overlap, overlaps, width}
-use Rattle.mls_model.specs.Frames.{Frame, Piece, piece, beat, bye, save, crash, hello, welcome, refuse}
+use Rattle.mls_model.specs.Frames.{Frame, Piece, piece, save, crash}
 use Rattle.mls_model.specs.Histories.{Event}
 
 -- the piece's cells are those of the rank's block that its client sends, and there are some

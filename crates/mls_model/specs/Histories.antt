@@ -1,5 +1,5 @@
 -- What happens at a rank: the events of its lanes in the order of its list.
-use Rattle.std.specs.Prelude.{ℕ, List, [], ◌∷◌, Option, Some, None}
+use Rattle.std.specs.Prelude.{ℕ, List, [], Option}
 use Rattle.std.specs.Option.{option_to_list, option_map, option_and_then}
 use Rattle.mls_model.specs.declared.lanes.LaneKind.{LaneKind}
 use Rattle.mls_model.specs.Numbers.{element, times}

@@ -1,5 +1,5 @@
 -- Martinez's indices of a list of rows, as truncated millionths.
-use Rattle.std.specs.Prelude.{ℕ, zero, suc, ◌+◌, ◌*◌, ◌^◌, Bool, ◌||◌, cond, List, ℤ, pos, negsuc, ◌-ℤ◌, Option, Some, None, nat_le, ◌==◌, unsigned_abs, neg_ℤ}
+use Rattle.std.specs.Prelude.{ℕ, ◌+◌, ◌*◌, ◌||◌, cond, List, ℤ, pos, negsuc, ◌-ℤ◌, Option, Some, None, nat_le, ◌==◌, unsigned_abs, neg_ℤ}
 use Rattle.std.specs.Option.{option_map}
 use Rattle.mls_model.specs.Numbers.{greatest}
 use Rattle.mls_model.specs.Statistics.{column, covariance, variance}

@@ -1,5 +1,5 @@
 -- A lane's bytes as frames, and a tape's bytes as lanes.
-use Rattle.std.specs.Prelude.{◌≡◌, ℕ, zero, suc, ◌+◌, ◌*◌, ◌^◌, ◌<◌, ◌≤◌, Bool, true, false, not, ◌&&◌, ◌||◌, cond, List, [], ◌∷◌, ◌++◌, length, take, drop, map, Result, Ok, Err, nat_lt, nat_le, ◌==◌, codes}
+use Rattle.std.specs.Prelude.{◌≡◌, ℕ, zero, suc, ◌+◌, Bool, not, ◌&&◌, ◌||◌, cond, List, [], ◌∷◌, ◌++◌, length, take, drop, map, Result, Ok, Err, nat_lt, ◌==◌, codes}
 use Rattle.std.specs.List.{AllByRecursion}
 use Rattle.std.specs.Int.{Width, w8, w16, w32, byte_len, from_be_bytes}
 use Rattle.mls_model.specs.declared.lanes.LaneKind.{LaneKind}
@@ -7,7 +7,6 @@ use Rattle.mls_model.specs.declared.lanes.LaneKind.TheVariants as kinds
 use Rattle.mls_model.specs.declared.lanes.LaneEnd.{LaneEnd}
 use Rattle.mls_model.specs.declared.lanes.LaneEnd.TheVariants as ends
 use Rattle.mls_model.specs.declared.lanes.LaneLine.{LaneLine}
-use Rattle.mls_model.specs.declared.lanes.FrameFault.{FrameFault}
 use Rattle.mls_model.specs.declared.lanes.FrameFault.TheVariants.{BadKind, BadLength}
 use Rattle.mls_model.specs.declared.lanes.TapeWhy.{TapeWhy}
 use Rattle.mls_model.specs.declared.lanes.TapeWhy.TheVariants as why

@@ -13,8 +13,10 @@ pub mod Completion
 pub mod Outcomes
 pub mod AcceptedRows
 pub mod Statistics
+pub mod CellSums
 pub mod Indices
 pub mod ResultText
+pub mod SumsText
 pub mod Standing
 pub mod Pasts
 pub mod Launcher

@@ -10,7 +10,7 @@ use Rattle.mls_model.specs.declared.outcomes.Outcome.TheVariants.{Accepted, Kept
 use Rattle.mls_model.specs.declared.outcomes.Counts.{Counts}
 use Rattle.mls_model.specs.Places.{gathered}
 use Rattle.mls_model.specs.Studies.{Sizes}
-use Rattle.mls_model.specs.Frames.{Frame, Piece, piece, beat, bye, save, crash, hello, welcome, refuse}
+use Rattle.mls_model.specs.Frames.{Frame, Piece, piece, save, crash}
 use Rattle.mls_model.specs.Histories.{Event}
 use Rattle.mls_model.specs.Fitting.{frame_reason, fitting}
 use Rattle.mls_model.specs.Completion.{key_of, is_later_life, is_share, is_completed, completes}

@@ -1,5 +1,5 @@
 -- The result text, as a function of study, lanes and schedule.
-use Rattle.std.specs.Prelude.{ℕ, zero, suc, ◌+◌, ◌-◌, ◌*◌, ◌/◌, ◌%◌, ◌^◌, Bool, true, false, ◌&&◌, cond, List, [], ◌∷◌, ◌++◌, length, map, get_or, ℤ, pos, negsuc, ◌*ℤ◌, Option, Some, None, nat_lt, ◌==◌, codes, decimal, flat_map, unsigned_abs, unwrap_or}
+use Rattle.std.specs.Prelude.{ℕ, ◌+◌, ◌-◌, ◌*◌, ◌/◌, ◌%◌, ◌&&◌, cond, List, [], ◌∷◌, ◌++◌, length, map, ℤ, pos, negsuc, Option, Some, None, nat_lt, codes, decimal, flat_map, unsigned_abs, unwrap_or}
 use Rattle.std.specs.Fmt.{signed_decimal}
 use Rattle.std.specs.List.{enumerate_from}
 use Rattle.mls_model.specs.declared.lanes.LaneKind.{LaneKind}
@@ -10,7 +10,7 @@ use Rattle.mls_model.specs.declared.lanes.LaneLine.{LaneLine}
 use Rattle.mls_model.specs.declared.outcomes.Counts.{Counts}
 use Rattle.mls_model.specs.declared.studies.Statistic.TheVariants.{Power, Extrema, Exceed, Sobol}
 use Rattle.mls_model.specs.Numbers.{below, element, joined}
-use Rattle.mls_model.specs.Studies.{Sizes, Study, Parameter, plane_of, shows}
+use Rattle.mls_model.specs.Studies.{Study, Parameter, plane_of, shows}
 use Rattle.mls_model.specs.Blocks.{rank_of}
 use Rattle.mls_model.specs.Samples.{unshifted}
 use Rattle.mls_model.specs.Lanes.{Lane, line_of}
@@ -68,29 +68,49 @@ field_words study field = elim study.field_names [ None ↦ [] | Some names ↦ 
 unfoldable pub step_line : Study → ℕ → ℕ → ℕ → ℕ → List ℕ
 step_line study step field x n = joined (codes "step " ∷ decimal step ∷ field_words study field ∷ codes " cell " ∷ decimal x ∷ codes " groups " ∷ decimal n ∷ codes "\n" ∷ [])
 
--- power P1 P2 P3 P4, or power -
+-- power P1 P2 P3 P4
+abbrev pub power_words : ℤ → ℤ → ℤ → ℤ → List ℕ
+power_words p1 p2 p3 p4 = joined (codes "power " ∷ signed_decimal p1 ∷ codes " " ∷ signed_decimal p2 ∷ codes " " ∷ signed_decimal p3 ∷ codes " " ∷ signed_decimal p4 ∷ codes "\n" ∷ [])
+
+-- of values, or power -
 unfoldable pub power_line : List ℤ → List ℕ
 power_line [] = codes "power -\n"
-power_line (w ∷ ws) = joined (codes "power " ∷ signed_decimal (total (w ∷ ws)) ∷ codes " " ∷ signed_decimal (squares (w ∷ ws)) ∷ codes " " ∷ signed_decimal (cubes (w ∷ ws)) ∷ codes " " ∷ signed_decimal (fourths (w ∷ ws)) ∷ codes "\n" ∷ [])
+power_line (w ∷ ws) = power_words (total (w ∷ ws)) (squares (w ∷ ws)) (cubes (w ∷ ws)) (fourths (w ∷ ws))
 
--- variance V/D with D = N · (N − 1), or variance -
+-- variance V/D of N values, with D = N · (N − 1)
+abbrev pub variance_words : ℤ → ℕ → List ℕ
+variance_words top n = joined (codes "variance " ∷ signed_decimal top ∷ codes "/" ∷ decimal (n * (n - 1)) ∷ codes "\n" ∷ [])
+
+-- of values, or variance -
 unfoldable pub variance_line : List ℤ → List ℕ
 variance_line [] = codes "variance -\n"
-variance_line (w ∷ ws) = joined (codes "variance " ∷ signed_decimal (variance_top (w ∷ ws)) ∷ codes "/" ∷ decimal (length (w ∷ ws) * (length (w ∷ ws) - 1)) ∷ codes "\n" ∷ [])
+variance_line (w ∷ ws) = variance_words (variance_top (w ∷ ws)) (length (w ∷ ws))
 
--- third U/E with E = N³, or third -
+-- third U/E of N values, with E = N³
+abbrev pub third_words : ℤ → ℕ → List ℕ
+third_words top n = joined (codes "third " ∷ signed_decimal top ∷ codes "/" ∷ decimal (n * (n * n)) ∷ codes "\n" ∷ [])
+
+-- of values, or third -
 unfoldable pub third_line : List ℤ → List ℕ
 third_line [] = codes "third -\n"
-third_line (w ∷ ws) = joined (codes "third " ∷ signed_decimal (third_top (w ∷ ws)) ∷ codes "/" ∷ decimal (length (w ∷ ws) * (length (w ∷ ws) * length (w ∷ ws))) ∷ codes "\n" ∷ [])
+third_line (w ∷ ws) = third_words (third_top (w ∷ ws)) (length (w ∷ ws))
 
--- extrema LEAST GREATEST, or extrema -
+-- extrema LEAST GREATEST
+abbrev pub extrema_words : ℤ → ℤ → List ℕ
+extrema_words low high = joined (codes "extrema " ∷ signed_decimal low ∷ codes " " ∷ signed_decimal high ∷ codes "\n" ∷ [])
+
+-- of values, or extrema -
 unfoldable pub extrema_line : List ℤ → List ℕ
 extrema_line [] = codes "extrema -\n"
-extrema_line (w ∷ ws) = joined (codes "extrema " ∷ signed_decimal (unwrap_or (least (w ∷ ws)) (pos 0)) ∷ codes " " ∷ signed_decimal (unwrap_or (most (w ∷ ws)) (pos 0)) ∷ codes "\n" ∷ [])
+extrema_line (w ∷ ws) = extrema_words (unwrap_or (least (w ∷ ws)) (pos 0)) (unwrap_or (most (w ∷ ws)) (pos 0))
 
 -- exceed and the number above each threshold
+unfoldable pub exceed_words : List ℕ → List ℕ
+exceed_words numbers = joined (codes "exceed" ∷ flat_map (λ n. joined (codes " " ∷ decimal n ∷ [])) numbers ∷ codes "\n" ∷ [])
+
+-- of values
 unfoldable pub exceed_line : List ℤ → List ℤ → List ℕ
-exceed_line thresholds ws = joined (codes "exceed" ∷ flat_map (λ threshold. joined (codes " " ∷ decimal (above threshold ws) ∷ [])) thresholds ∷ codes "\n" ∷ [])
+exceed_line thresholds ws = exceed_words (map (λ threshold. above threshold ws) thresholds)
 
 -- n in six digits
 abbrev pub six_digits : ℕ → List ℕ
@@ -109,8 +129,12 @@ index_words None = codes "-"
 index_words (Some m) = millionths_words m
 
 -- sobol NAME FIRST TOTAL cB cA vA vB vC
+abbrev pub sobol_words : List ℕ → Option ℤ → Option ℤ → ℤ → ℤ → ℕ → ℕ → ℕ → List ℕ
+sobol_words name first rest cov_b cov_a var_a var_b var_c = joined (codes "sobol " ∷ name ∷ codes " " ∷ index_words first ∷ codes " " ∷ index_words rest ∷ codes " " ∷ signed_decimal cov_b ∷ codes " " ∷ signed_decimal cov_a ∷ codes " " ∷ decimal var_a ∷ codes " " ∷ decimal var_b ∷ codes " " ∷ decimal var_c ∷ codes "\n" ∷ [])
+
+-- of a parameter, from rows of values
 unfoldable pub sobol_line : ℕ → Parameter → List (List ℤ) → List ℕ
-sobol_line k parameter rs = joined (codes "sobol " ∷ parameter.name ∷ codes " " ∷ index_words (first_index k rs) ∷ codes " " ∷ index_words (total_index k rs) ∷ codes " " ∷ signed_decimal (covariance (column 1 rs) (column (2 + k) rs)) ∷ codes " " ∷ signed_decimal (covariance (column 0 rs) (column (2 + k) rs)) ∷ codes " " ∷ decimal (variance (column 0 rs)) ∷ codes " " ∷ decimal (variance (column 1 rs)) ∷ codes " " ∷ decimal (variance (column (2 + k) rs)) ∷ codes "\n" ∷ [])
+sobol_line k parameter rs = sobol_words parameter.name (first_index k rs) (total_index k rs) (covariance (column 1 rs) (column (2 + k) rs)) (covariance (column 0 rs) (column (2 + k) rs)) (variance (column 0 rs)) (variance (column 1 rs)) (variance (column (2 + k) rs))
 
 unfoldable pub sobol_lines : Study → List (List ℤ) → List ℕ
 sobol_lines study rs = flat_map (λ (p : ℕ × Parameter). sobol_line p.0 p.1 rs) (enumerate_from 0 study.parameters)
@@ -135,19 +159,29 @@ index_lines study rs = cond (shows study Sobol) (sobol_lines study rs) []
 unfoldable pub cell_text : Study → ℕ → ℕ → ℕ → List (List ℤ) → List ℕ
 cell_text study step field x rs = step_line study step field x (length rs) ++ (power_lines study rs ++ (extrema_lines study rs ++ (exceed_lines study rs ++ index_lines study rs)))
 
--- the cells of a step and field in rising order, from the rows of each
-unfoldable pub field_text : Study → ℕ → ℕ → (ℕ → ℕ → List (List ℤ)) → List ℕ
-field_text study step field table = flat_map (λ x. cell_text study step field x (table (plane_of study.sizes step field) x)) (below study.sizes.cells)
+-- the texts of the cells of a step and field, in rising order
+unfoldable pub field_text : Study → (ℕ → List ℕ) → List ℕ
+field_text study cell = flat_map cell (below study.sizes.cells)
 
-unfoldable pub step_text : Study → ℕ → (ℕ → ℕ → List (List ℤ)) → List ℕ
-step_text study step table = flat_map (λ field. field_text study step field table) (below study.sizes.fields)
+-- of the fields of a step
+unfoldable pub step_text : Study → (ℕ → ℕ → List ℕ) → List ℕ
+step_text study cell = flat_map (λ field. field_text study (cell field)) (below study.sizes.fields)
 
-unfoldable pub cells_text : Study → (ℕ → ℕ → List (List ℤ)) → List ℕ
-cells_text study table = flat_map (λ step. step_text study step table) (below study.sizes.steps)
+-- of all steps
+unfoldable pub cells_text : Study → (ℕ → ℕ → ℕ → List ℕ) → List ℕ
+cells_text study cell = flat_map (λ step. step_text study (cell step)) (below study.sizes.steps)
 
--- the whole text, from the ranks' counts, the lanes' lines and the rows of each plane and cell
-unfoldable pub text_of : Study → List Counts → List LaneLine → (ℕ → ℕ → List (List ℤ)) → List ℕ
-text_of study all lines table = title ++ (study_line study ++ (rank_lines all ++ (lane_lines lines ++ (cells_text study table ++ codes "end\n"))))
+-- the whole text, from the ranks' counts, the lanes' lines and what is said of each step, field and cell
+unfoldable pub whole_text : Study → List Counts → List LaneLine → (ℕ → ℕ → ℕ → List ℕ) → List ℕ
+whole_text study all lines cell = title ++ (study_line study ++ (rank_lines all ++ (lane_lines lines ++ (cells_text study cell ++ codes "end\n"))))
+
+-- what is said of a step, field and cell, from the rows of each plane and cell
+abbrev pub rows_said : Study → (ℕ → ℕ → List (List ℤ)) → ℕ → ℕ → ℕ → List ℕ
+rows_said study table step field x = cell_text study step field x (table (plane_of study.sizes step field) x)
+
+-- the whole text, from the rows of each plane and cell
+abbrev pub text_of : Study → List Counts → List LaneLine → (ℕ → ℕ → List (List ℤ)) → List ℕ
+text_of study all lines table = whole_text study all lines (rows_said study table)
 
 -- the surviving events of a rank under a schedule
 abbrev pub survivors : List Lane → List (List ℕ) → ℕ → List Event

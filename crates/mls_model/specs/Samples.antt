@@ -1,5 +1,5 @@
 -- A sample is a number of 16 bits. It stands for a value, and is kept as a shifted value.
-use Rattle.std.specs.Prelude.{ℕ, ◌+◌, ◌-◌, ◌%◌, Bool, true, false, ℤ, pos, ◌-ℤ◌}
+use Rattle.std.specs.Prelude.{ℕ, ◌+◌, ◌%◌, Bool, true, false, ℤ, pos, ◌-ℤ◌}
 
 -- the shifted value, always from 0 to 65,535: under i16 the value plus 32,768
 abbrev pub shifted : Bool → ℕ → ℕ

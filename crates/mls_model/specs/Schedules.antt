@@ -1,7 +1,7 @@
 -- A schedule has, for each rank, a list of lanes of that rank: the order in which the rank takes their events.
-use Rattle.std.specs.Prelude.{◌≡◌, ℕ, zero, suc, ◌+◌, ◌<◌, ◌≤◌, Bool, true, false, ◌&&◌, cond, List, [], ◌∷◌, ◌++◌, length, replicate, map, Option, Some, None, nat_le, ◌==◌, codes, decimal}
+use Rattle.std.specs.Prelude.{ℕ, zero, suc, Bool, false, ◌&&◌, cond, List, [], ◌∷◌, length, replicate, map, nat_le, ◌==◌, codes, decimal}
 use Rattle.std.specs.List.{flat_map, list_all, enumerate_from}
-use Rattle.mls_model.specs.Numbers.{below, element, times, joined}
+use Rattle.mls_model.specs.Numbers.{below, times, joined}
 use Rattle.mls_model.specs.Lanes.{Lane}
 
 -- the events of lane k of a tape, as a number

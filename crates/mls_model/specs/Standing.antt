@@ -1,5 +1,5 @@
 -- What a rank keeps sums of: for each plane and place of its block a list of rows of shifted values.
-use Rattle.std.specs.Prelude.{ℕ, ◌+◌, Bool, ◌&&◌, cond, List, [], ◌∷◌, ◌++◌, map, nat_lt, ◌==◌}
+use Rattle.std.specs.Prelude.{ℕ, ◌+◌, ◌&&◌, cond, List, [], ◌∷◌, ◌++◌, nat_lt, ◌==◌}
 use Rattle.mls_model.specs.Studies.{Sizes}
 use Rattle.mls_model.specs.Blocks.{block, width}
 use Rattle.mls_model.specs.Frames.{Piece}

@@ -1,5 +1,5 @@
 -- The batch statistics of a list of rows of values, by two passes over whole lists.
-use Rattle.std.specs.Prelude.{ℕ, zero, suc, ◌+◌, ◌*◌, ◌==◌, Bool, cond, List, [], ◌∷◌, ◌++◌, length, map, get_or, ℤ, pos, negsuc, ◌+ℤ◌, ◌-ℤ◌, ◌*ℤ◌, Option, Some, None, int_lt, int_le, int_div, unsigned_abs, count_by, flat_map}
+use Rattle.std.specs.Prelude.{ℕ, cond, List, [], ◌∷◌, length, map, get_or, ℤ, pos, ◌+ℤ◌, ◌-ℤ◌, ◌*ℤ◌, Option, Some, None, int_lt, int_div, unsigned_abs, count_by, flat_map}
 use Rattle.mls_model.specs.Numbers.{sum_ints, square, cube}
 
 -- an entry of a row, and a column of rows: 0 is A, 1 is B, 2 + k is C^k

@@ -1,5 +1,5 @@
 -- What a study is.
-use Rattle.std.specs.Prelude.{◌≡◌, ℕ, ◌+◌, ◌-◌, ◌*◌, ◌^◌, ◌<◌, ◌≤◌, Bool, true, false, ◌&&◌, ◌||◌, cond, List, [], ◌∷◌, length, Option, Some, None, IfSome, ℤ, pos, negsuc, ◌-ℤ◌, ◌+ℤ◌, ◌≤ℤ◌, nat_lt, nat_le, ◌==◌, IsTrue, map}
+use Rattle.std.specs.Prelude.{◌≡◌, ℕ, ◌+◌, ◌*◌, ◌^◌, ◌<◌, ◌≤◌, Bool, true, false, ◌&&◌, ◌||◌, cond, List, [], ◌∷◌, length, Option, None, IfSome, ℤ, pos, negsuc, ◌-ℤ◌, ◌≤ℤ◌, nat_lt, nat_le, ◌==◌, IsTrue, map}
 use Rattle.std.specs.List.{list_any, list_all, AllByRecursion}
 use Rattle.mls_model.specs.declared.studies.Statistic.{Statistic}
 use Rattle.mls_model.specs.declared.studies.Statistic.TheVariants.{Power, Extrema, Exceed, Sobol}

@@ -3,7 +3,7 @@ use Rattle.std.specs.Prelude.{Bool, true, false, not, ◌||◌, cond, List, [], 
 use Rattle.std.specs.List.{list_any}
 use Rattle.mls_model.specs.declared.lanes.LaneKind.TheVariants.{Client, Control}
 use Rattle.mls_model.specs.Places.{all_places}
-use Rattle.mls_model.specs.Frames.{Frame, piece, beat, bye, save, crash, hello, welcome, refuse}
+use Rattle.mls_model.specs.Frames.{Frame, save, crash}
 use Rattle.mls_model.specs.Histories.{Event}
 
 -- a save and a crash count on control lanes alone
