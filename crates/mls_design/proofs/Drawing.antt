@@ -13,7 +13,8 @@ use Rattle.mls_design.specs.declared.words.Pair.{Pair}
 use Rattle.mls_design.specs.Kept.{Kept, IsKept, pair_of, design_of}
 use Rattle.mls_design.specs.Ranges.{nameless}
 use Rattle.mls_design.proofs.Elements.{element_map, element_there, get_or_element, element_enumerated, take_element}
-use Rattle.mls_design.proofs.Counting.{length-below, get_or-below, map-below_more}
+use Rattle.mls_text.proofs.Counted.{length-below, get_or-below}
+use Rattle.mls_design.proofs.Counting.{map-below_more}
 
 -- n pairs are drawn
 pub record Drew (seed n : ℕ) (ps : List Pair) (g : Lcg) : Type 0 where

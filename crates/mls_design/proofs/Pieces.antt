@@ -1,7 +1,7 @@
 -- The samples of a piece.
-use Rattle.std.proofs.Common.{◌≡◌, ℕ, zero, suc, ◌+◌, ◌-◌, ◌*◌, ◌≤◌, List, [], ◌∷◌, ◌++◌, length, map, refl, sym, ◌∙◌, ap, arith, append_assoc, length-append}
+use Rattle.std.proofs.Common.{◌≡◌, ℕ, zero, suc, ◌+◌, ◌-◌, ◌*◌, ◌≤◌, List, [], ◌∷◌, ◌++◌, length, map, sym, ◌∙◌, ap, arith, append_assoc, length-append}
 use Rattle.std.specs.List.{flat_map}
-use Rattle.std.proofs.lemmas.List.{length-map}
+use Rattle.std.proofs.lemmas.List.{append-nil, length-map}
 use Rattle.std.proofs.lemmas.Grind.{flat_map-append}
 use Rattle.mls_model.specs.Numbers.{below}
 use Rattle.std.proofs.Math.Nat.{mul-le-mul_right}
@@ -10,7 +10,8 @@ use Rattle.mls_model.specs.Blocks.{overlap, width}
 use Rattle.mls_model.specs.Frames.{Frame, piece}
 use Rattle.mls_model.specs.Studies.{Study, plane_of}
 use Rattle.mls_model.specs.Designs.{inputs, response, solve, solved_row, solved_piece}
-use Rattle.mls_design.proofs.Counting.{length-below, map-below_more, flat_map-below_more}
+use Rattle.mls_text.proofs.Counted.{length-below}
+use Rattle.mls_design.proofs.Counting.{map-below_more, flat_map-below_more}
 
 -- one sample more
 pub row_more : (f : ℕ → ℕ) (n s : ℕ) (old now new : List ℕ) → now ≡ old ++ map f (below n) → new ≡ now ++ s ∷ [] → s ≡ f n → new ≡ old ++ map f (below (n + 1))
@@ -18,12 +19,8 @@ row_more f n s old now new so_far step is =
     step ∙ ap (λ xs. xs ++ s ∷ []) so_far ∙ append_assoc old (map f (below n)) (s ∷ [])
     ∙ ap (λ x. old ++ (map f (below n) ++ x ∷ [])) is ∙ ap (λ xs. old ++ xs) (sym (map-below_more f n))
 
-append_none : (xs : List ℕ) → xs ++ [] ≡ xs
-append_none [] = refl
-append_none (x ∷ xs) = ap (λ ys. x ∷ ys) (append_none xs)
-
 pub row_none : (f : ℕ → ℕ) (old : List ℕ) → old ≡ old ++ map f (below 0)
-row_none f old = sym (append_none old)
+row_none f old = sym (append-nil old)
 
 -- what was added for a simulation is its row
 pub row_is : (study : Study) (group sim step field first count : ℕ) (ss : List ℕ) → ss ≡ inputs study group sim → map (λ x. response (first + x + step + field) ss) (below count) ≡ solved_row study group sim step field first count

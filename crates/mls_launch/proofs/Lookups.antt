@@ -1,18 +1,15 @@
 -- Lists by their places: a list made from the numbers below n, and a write.
-use Rattle.std.proofs.Common.{◌≡◌, ℕ, zero, suc, ◌+◌, ◌<◌, List, [], ◌∷◌, ◌++◌, length, map, refl, sym, ap, ◌∙◌, inl, inr, arith, get_or, length-append}
+use Rattle.std.proofs.Common.{◌≡◌, ℕ, zero, suc, ◌<◌, List, [], ◌∷◌, ◌++◌, length, map, sym, ap, ◌∙◌, inl, inr, arith, get_or}
 use Rattle.std.specs.Prelude.{cond, ◌==◌}
 use Rattle.std.proofs.Math.ListN.{set, get_or-append}
 use Rattle.std.proofs.lemmas.Bool.{cases_Bool, cases_lt, cases_eq}
 use Rattle.std.proofs.lemmas.List.{map-append, length-map, ext_get_or, get_or_push, get_or-set_same, get_or-set_other}
 use Rattle.mls_model.specs.Numbers.{below}
 use Rattle.mls_launch.proofs.Picking.{eq_same, eq_other, eq_true}
-
-pub length_below : (n : ℕ) → length (below n) ≡ n
-length_below zero = refl
-length_below (suc n) = length-append (below n) (n ∷ []) ∙ ap (λ k. k + 1) (length_below n) ∙ omega arith
+use Rattle.mls_text.proofs.Counted.{length-below}
 
 pub length_made : {A : Type 0} (f : ℕ → A) (n : ℕ) → length (map f (below n)) ≡ n
-length_made f n = length-map (below n) f ∙ length_below n
+length_made f n = length-map (below n) f ∙ length-below n
 
 pub get_made : {A : Type 0} (f : ℕ → A) (n k : ℕ) (d : A) → k < n → get_or (map f (below n)) k d ≡ f k
 get_made f zero k d h = absurd (omega arith)

@@ -3,10 +3,11 @@ use Rattle.std.proofs.Common.{◌≡◌, ℕ, zero, suc, ◌+◌, ◌≤◌, ◌
 use Rattle.std.specs.List.{list_all, enumerate_from, AllByRecursion}
 use Rattle.std.proofs.lemmas.Bool.{ne_eqb, eqb-true, le-leb, lt-ltb, le-ltb}
 use Rattle.std.proofs.lemmas.Bool.Decides.{nat_tests}
-use Rattle.std.proofs.lemmas.List.{append-nil, map_push, length-append, length-map}
+use Rattle.std.proofs.lemmas.List.{append-nil, map_push, length-map}
 use Rattle.mls_model.specs.Numbers.{below, element, times, joined}
 use Rattle.mls_model.specs.Lanes.{Lane}
 use Rattle.mls_model.specs.Schedules.{event_count, is_lane_of, is_legal_order, is_legal, is_complete, plain_order, plain}
+use Rattle.mls_text.proofs.Counted.{length-below}
 use Rattle.mls_tape.proofs.Entries.{count_of, lane_of_rank}
 use Rattle.mls_tape.proofs.Plain.{share, shares, plain_start}
 
@@ -99,10 +100,6 @@ unfolding is_legal_order
 plain_order_legal lanes rank = all_standing (λ k. is_lane_of lanes rank k && leb (times k (plain_order lanes rank)) (event_count lanes k)) (plain_order lanes rank) (λ k some. standing_is_legal (is_lane_of lanes rank k) (times k (plain_order lanes rank)) (event_count lanes k) (plain_times lanes rank k) some)
 
 -- ---- all ranks
-
-pub length-below : (n : ℕ) → length (below n) ≡ n
-length-below zero = refl
-length-below (suc n) = omega (arith, length-append (below n) (n ∷ []), length-below n)
 
 element_push : {A : Type 0} (xs : List A) (y x : A) (j : ℕ) → element (xs ++ y ∷ []) j ≡ Some x → (element xs j ≡ Some x) ⊎ ((j ≡ length xs) × (x ≡ y))
 element_push [] y x zero e = inr (refl, cc)

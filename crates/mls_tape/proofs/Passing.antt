@@ -14,8 +14,9 @@ use Rattle.mls_tape.specs.declared.lines.Passed.{Passed}
 use Rattle.mls_tape.specs.ScheduleLines.{lanes_of, order_of, orders_of, AreLegalLines, BeginsWith, Fails}
 use Rattle.mls_tape.specs.ScheduleReading.{line_refusal}
 use Rattle.mls_tape.specs.Passed.{StandsFor, lists_seen}
+use Rattle.mls_text.proofs.Counted.{length-below}
 use Rattle.mls_tape.proofs.Entries.{lane_there, lane_of_rank, no_lane}
-use Rattle.mls_tape.proofs.Complete.{length-below, times-append}
+use Rattle.mls_tape.proofs.Complete.{times-append}
 
 pub any_default : {A : Type 0} (xs : List A) (i : ℕ) (d e : A) → i < length xs → get_or xs i d ≡ get_or xs i e
 any_default [] i d e lt = absurd (omega arith)

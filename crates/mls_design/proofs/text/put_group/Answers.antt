@@ -4,7 +4,7 @@ use Rattle.mls_base.specs.Told.{appended, WroteFront}
 use Rattle.mls_model.specs.Numbers.{below}
 use Rattle.mls_model.specs.Designs.{design_line, group_lines}
 use Rattle.mls_text.proofs.Writing.{rose_since, failed_writes}
-use Rattle.mls_design.proofs.Counting.{number_more, number_failed, number_all}
+use Rattle.mls_text.proofs.Counted.{number_more, number_failed, number_all}
 use Rattle.mls_design.proofs.text.put_group.Goals as goal
 
 pub returns-in_err-put_bytes : goal.returns-in_err-put_bytes

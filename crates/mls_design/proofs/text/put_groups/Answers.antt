@@ -5,7 +5,7 @@ use Rattle.mls_model.specs.Numbers.{below}
 use Rattle.mls_model.specs.Designs.{group_lines}
 use Rattle.mls_text.proofs.Writing.{rose_since, failed_writes}
 use Rattle.mls_design.specs.Lines.{all_lines}
-use Rattle.mls_design.proofs.Counting.{number_more, number_failed, number_all}
+use Rattle.mls_text.proofs.Counted.{number_more, number_failed, number_all}
 use Rattle.mls_design.proofs.text.put_groups.Goals as goal
 
 pub returns-in_err-put_group : goal.returns-in_err-put_group
