@@ -1,26 +1,15 @@
 -- How texts that are written one after another make one text.
-use Rattle.std.proofs.Common.{◌≡◌, List, [], ◌∷◌, ℕ, ◌++◌, ◌<◌, ◌≤◌, length, Option, Some, None, take, drop, map, true, false, refl, sym, ◌∙◌, ap, subst, append_assoc, Result, Ok, Err, get_or}
-use Rattle.std.proofs.lemmas.List.{take-append-drop, drop_all}
+use Rattle.std.proofs.Common.{◌≡◌, List, [], ℕ, ◌++◌, ◌<◌, ◌≤◌, length, Option, take, drop, map, true, false, refl, sym, ◌∙◌, ap, subst, append_assoc, Result, Ok, Err, get_or}
+use Rattle.std.proofs.lemmas.List.{append-nil, take-append-drop, drop_all}
 use Rattle.std.proofs.Common.{add-one, drop-cons, ◌+◌}
 use Rattle.mls_model.specs.Numbers.{joined}
 use Rattle.std.specs.List.{flat_map}
 use Rattle.std.specs.Result.{IsErrAnd, OnErr, is_ok}
 use Rattle.mls_base.specs.declared.faults.Failed.{Failed}
 use Rattle.mls_base.specs.Told.{appended, MayCease, Rose, WroteFront}
+use Rattle.mls_base.proofs.Told.{Rose-after, WroteFront-more, WroteFront-after}
+pub use Rattle.mls_base.proofs.Told.{appended-appended, appended-nil}
 use Rattle.mls_text.specs.Writing.{Writes, Gathers, GathersOn}
-
--- what is appended in two parts is appended as one
-pub appended-appended : (old : Option (List ℕ)) (a b : List ℕ) → appended (appended old a) b ≡ appended old (a ++ b)
-appended-appended None a b = refl
-appended-appended (Some xs) a b = ap Some (append_assoc xs a b)
-
-append_nil : (xs : List ℕ) → xs ++ [] ≡ xs
-append_nil [] = refl
-append_nil (x ∷ xs) = ap (λ ys. x ∷ ys) (append_nil xs)
-
-pub appended-nil : (old : Option (List ℕ)) → appended old [] ≡ old
-appended-nil None = refl
-appended-nil (Some xs) = ap Some (append_nil xs)
 
 -- a front of the text is out, and the rest is left
 pub record IsFrontOut (rest text : List ℕ) (old new : Option (List ℕ)) (before now : ℕ) : Type 0 where
@@ -43,7 +32,7 @@ front_more part rest text old mid new before now after f is_new is_now = record 
 
 -- all is out
 pub front_all : (text : List ℕ) (old new : Option (List ℕ)) (before now : ℕ) → IsFrontOut [] text old new before now → new ≡ appended old text
-front_all text old new before now f = f.written ∙ ap (appended old) (sym (append_nil f.front) ∙ f.is_text)
+front_all text old new before now f = f.written ∙ ap (appended old) (sym (append-nil f.front) ∙ f.is_text)
 
 -- a write of a part of the rest failed
 pub front_failed : (part rest text : List ℕ) (old mid new : Option (List ℕ)) (before now : ℕ) → IsFrontOut (part ++ rest) text old mid before now → WroteFront mid new part → WroteFront old new text
@@ -71,25 +60,15 @@ stopped rest text old mid new before now f ceased = record {
 
 -- the count that a failed write raised, counted from before
 pub rose_since : (before now after : ℕ) → now ≡ before → Rose now after → Rose before after
-rose_since before now after same rose = subst (λ n. Rose n after) same rose
+rose_since before now after same rose = Rose-after before now after same rose
 
 -- A text that begins with what failed went out to a front of it.
 pub first_failed : (a b : List ℕ) (old new : Option (List ℕ)) → WroteFront old new a → WroteFront old new (a ++ b)
-first_failed a b old new w = record {
-  front = w.front;
-  rest = w.rest ++ b;
-  is_text = sym (append_assoc w.front w.rest b) ∙ ap (λ t. t ++ b) w.is_text;
-  written = w.written;
-}
+first_failed a b old new w = WroteFront-more old new a b w
 
 -- One of which a first part is out already.
 pub later_failed : (a b : List ℕ) (old mid new : Option (List ℕ)) → mid ≡ appended old a → WroteFront mid new b → WroteFront old new (a ++ b)
-later_failed a b old mid new is_mid w = record {
-  front = a ++ w.front;
-  rest = w.rest;
-  is_text = append_assoc a w.front w.rest ∙ ap (λ t. a ++ t) w.is_text;
-  written = subst (λ o. MayCease o new) (ap (λ o. appended o w.front) is_mid ∙ appended-appended old a w.front) w.written;
-}
+later_failed a b old mid new is_mid w = WroteFront-after old mid new a b is_mid w
 
 -- two parts are out
 pub both_out : (a b : List ℕ) (old mid new : Option (List ℕ)) → mid ≡ appended old a → new ≡ appended mid b → new ≡ appended old (a ++ b)
@@ -139,7 +118,7 @@ gathers_kept held piece now_held old before e = record { out = []; whole = e; wr
 pub gathers_out : (held piece now_held : List ℕ) (old mid new : Option (List ℕ)) (before now after : ℕ) → now_held ≡ [] → mid ≡ appended old held → now ≡ before → new ≡ appended mid piece → after ≡ now → Gathers held now_held piece old new before after
 gathers_out held piece now_held old mid new before now after none is_mid same is_new is_now = record {
   out = held ++ piece;
-  whole = ap (λ t. (held ++ piece) ++ t) none ∙ append_nil (held ++ piece);
+  whole = ap (λ t. (held ++ piece) ++ t) none ∙ append-nil (held ++ piece);
   written = both_out held piece old mid new is_mid is_new;
   faultless = is_now ∙ same;
 }
