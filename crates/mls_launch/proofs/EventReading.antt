@@ -1,22 +1,17 @@
 -- The reader of an events file reads exactly the lines of events.
-use Rattle.std.proofs.Common.{◌≡◌, ℕ, suc, ◌-◌, ◌+◌, ◌^◌, ◌<◌, ◌≤◌, Bool, true, false, List, [], ◌∷◌, ◌++◌, length, take, drop, refl, sym, ap, ◌∙◌, subst, inl, inr, arith, append_assoc, length-append, Option, Some, None, Result, Ok, Err}
-use Rattle.std.specs.Prelude.{cond, ◌&&◌, ◌==◌, codes, decimal}
-use Rattle.std.specs.Char.{is_ascii_digit}
-use Rattle.std.specs.List.{prefix_len, AllByRecursion}
+use Rattle.std.proofs.Common.{◌≡◌, ℕ, suc, ◌-◌, ◌+◌, ◌^◌, ◌<◌, ◌≤◌, List, [], ◌∷◌, ◌++◌, length, take, drop, refl, sym, ap, ◌∙◌, subst, inl, inr, arith, append_assoc, length-append, Option, Some, None, Result, Ok, Err}
+use Rattle.std.specs.Prelude.{cond, ◌==◌, codes, decimal}
+use Rattle.std.specs.List.{AllByRecursion}
 use Rattle.std.specs.Option.{option_and_then}
-use Rattle.std.specs.Str.{all_ascii_digits}
-use Rattle.std.specs.Str.Parse.{digits_value}
 use Rattle.std.proofs.lemmas.Bool.{cases_Bool}
 use Rattle.std.proofs.lemmas.List.{append-nil, take-append-drop}
-use Rattle.std.proofs.lemmas.Str.Parse.{IsNumeralModel, numerals_by_value, tells_all_ascii_digits}
-use Rattle.std.proofs.lemmas.Fmt.{digits_decimal}
 use Rattle.mls_model.specs.declared.launcher.Event.{Event}
 use Rattle.mls_model.specs.declared.launcher.Event.TheVariants.{Tick, Beat, Done, RankBeat}
 use Rattle.mls_launch.specs.EventsText.{event_line, IsEvent, events_text, IsRefusedAt}
-use Rattle.mls_launch.specs.EventReading.{prepended, events_from, events_of, after_in, behind, number_in, number_before, tick_in, rank_in, life_in, event_in}
+use Rattle.mls_launch.specs.EventReading.{prepended, events_from, events_of, after_in, behind, tick_in, rank_in, life_in, event_in}
 use Rattle.mls_launch.proofs.Picking.{eq_same, eq_true}
-use Rattle.mls_text.specs.Decimals.{number_below}
-use Rattle.mls_text.proofs.Decimals.{number_is, number_found}
+use Rattle.mls_text.specs.Fronts.{number_before}
+use Rattle.mls_text.proofs.Fronts.{take_front, first_same, second_same, number_before_is, number_before_found, two_parts}
 
 -- a front
 pub after_front : (front rest : List ℕ) → after_in front (front ++ rest) ≡ Some rest
@@ -30,10 +25,6 @@ after_found (c ∷ front) (b ∷ bytes) rest e = elim (cases_Bool (c == b)) [
   | inl t ↦ ap (λ z. z ∷ bytes) (sym (eq_true c b t)) ∙ ap (λ l. c ∷ l) (after_found front bytes rest (sym (ap (λ d. cond d (after_in front bytes) None) t) ∙ e))
   | inr f ↦ let wrong : None ≡ Some rest = sym (ap (λ d. cond d (after_in front bytes) None) f) ∙ e in cc
 ]
-
-take_front : (front rest : List ℕ) → take (length front) (front ++ rest) ≡ front
-take_front [] rest = refl
-take_front (c ∷ front) rest = ap (λ l. c ∷ l) (take_front front rest)
 
 -- none where the bytes begin otherwise
 pub after_none : (front bytes : List ℕ) → (length front ≤ length bytes → take (length front) bytes ≡ front → ⊥) → after_in front bytes ≡ None
@@ -49,95 +40,6 @@ pub after_there : (front bytes : List ℕ) → take (length front) bytes ≡ fro
 after_there front bytes e =
     ap (after_in front) (sym (take-append-drop (length front) bytes) ∙ ap (λ l. l ++ drop (length front) bytes) e)
     ∙ after_front front (drop (length front) bytes)
-
--- digits and numbers
-own : IsNumeralModel (λ ds. all_ascii_digits ds ≡ true) (digits_value 10)
-own = numerals_by_value (λ ds. all_ascii_digits ds ≡ true) tells_all_ascii_digits
-
-below_64 : (n : ℕ) → n < 2 ^ 32 → n < 2 ^ 64
-below_64 n h = omega arith
-
-both_true : (a b : Bool) → (a && b) ≡ true → (a ≡ true) × (b ≡ true)
-both_true true b t = (refl, t)
-both_true false b t = cc
-
-digits_run : (digits : List ℕ) (c : ℕ) (rest : List ℕ) → all_ascii_digits digits ≡ true → is_ascii_digit c ≡ false → prefix_len is_ascii_digit (digits ++ c ∷ rest) ≡ length digits
-digits_run [] c rest all stop = ap (λ b. cond b (1 + prefix_len is_ascii_digit rest) 0) stop
-digits_run (d ∷ digits) c rest all stop =
-    let both = both_true (is_ascii_digit d) (all_ascii_digits digits) all in
-    ap (λ b. cond b (1 + prefix_len is_ascii_digit (digits ++ c ∷ rest)) 0) both.0
-    ∙ ap (λ k. 1 + k) (digits_run digits c rest both.1 stop)
-    ∙ omega arith
-
-drop_front : (front rest : List ℕ) → drop (length front) (front ++ rest) ≡ rest
-drop_front [] rest = refl
-drop_front (c ∷ front) rest = drop_front front rest
-
-number_in_is : (n c : ℕ) (rest : List ℕ) → n < 2 ^ 32 → is_ascii_digit c ≡ false → number_in (decimal n ++ c ∷ rest) ≡ Some (n, c ∷ rest)
-unfolding number_in
-number_in_is n c rest small stop =
-    let run : prefix_len is_ascii_digit (decimal n ++ c ∷ rest) ≡ length (decimal n) = digits_run (decimal n) c rest (digits_decimal own n (below_64 n small)) stop in
-    let part : ℕ → Option (ℕ × List ℕ) = λ k. option_and_then (λ m. Some (m, drop k (decimal n ++ c ∷ rest))) (number_below (2 ^ 32) (take k (decimal n ++ c ∷ rest))) in
-    ap part run
-    ∙ ap (option_and_then (λ m. Some (m, drop (length (decimal n)) (decimal n ++ c ∷ rest)))) (number_is (2 ^ 32) (take (length (decimal n)) (decimal n ++ c ∷ rest)) n (omega arith) small (take_front (decimal n) (c ∷ rest)))
-    ∙ ap (λ l. Some (n, l)) (drop_front (decimal n) (c ∷ rest))
-
-first_or : {A B : Type 0} → A → Option (A × B) → A
-first_or a None = a
-first_or a (Some x) = x.0
-
-second_or : {A B : Type 0} → B → Option (A × B) → B
-second_or b None = b
-second_or b (Some x) = x.1
-
-first_same : {A B : Type 0} (a c : A) (b d : B) → ◌≡◌ {A = Option (A × B)} (Some (a, b)) (Some (c, d)) → a ≡ c
-unfolding first_or
-first_same a c b d e = ap (first_or a) e
-
-second_same : {A B : Type 0} (a c : A) (b d : B) → ◌≡◌ {A = Option (A × B)} (Some (a, b)) (Some (c, d)) → b ≡ d
-unfolding second_or
-second_same a c b d e = ap (second_or b) e
-
-number_in_found : (bytes : List ℕ) (n : ℕ) (rest : List ℕ) → number_in bytes ≡ Some (n, rest) → (bytes ≡ decimal n ++ rest) × (n < 2 ^ 32)
-unfolding number_in
-number_in_found bytes n rest e = go (number_below (2 ^ 32) (take (prefix_len is_ascii_digit bytes) bytes)) refl e
-  where
-    go : (o : Option ℕ) → number_below (2 ^ 32) (take (prefix_len is_ascii_digit bytes) bytes) ≡ o → option_and_then {U = ℕ × List ℕ} (λ (m : ℕ). Some (m, drop (prefix_len is_ascii_digit bytes) bytes)) o ≡ Some (n, rest) → (bytes ≡ decimal n ++ rest) × (n < 2 ^ 32)
-    go None h e = cc
-    go (Some m) h e =
-        let same0 = first_same m n (drop (prefix_len is_ascii_digit bytes) bytes) rest e in
-        let same1 = second_same m n (drop (prefix_len is_ascii_digit bytes) bytes) rest e in
-        let found = number_found (2 ^ 32) (take (prefix_len is_ascii_digit bytes) bytes) m h in (
-          sym (take-append-drop (prefix_len is_ascii_digit bytes) bytes)
-              ∙ ap (λ l. l ++ drop (prefix_len is_ascii_digit bytes) bytes) (found.0 ∙ ap decimal same0)
-              ∙ ap (λ l. decimal n ++ l) same1,
-          let P : ℕ → Type 0 = λ k. k < 2 ^ 32 in subst P same0 found.1,
-        )
-
--- a number before a byte
-number_before_is : (n c : ℕ) (rest : List ℕ) → n < 2 ^ 32 → is_ascii_digit c ≡ false → number_before c (decimal n ++ c ∷ rest) ≡ Some (n, rest)
-unfolding number_before
-number_before_is n c rest small stop =
-    ap (option_and_then (λ (x : ℕ × List ℕ). option_and_then (λ (r : List ℕ). Some (x.0, r)) (after_in (c ∷ []) x.1))) (number_in_is n c rest small stop)
-    ∙ ap (option_and_then (λ (r : List ℕ). Some (n, r))) (after_front (c ∷ []) rest)
-
-number_before_found : (c : ℕ) (bytes : List ℕ) (n : ℕ) (rest : List ℕ) → number_before c bytes ≡ Some (n, rest) → (bytes ≡ decimal n ++ c ∷ rest) × (n < 2 ^ 32)
-unfolding number_before
-number_before_found c bytes n rest e = go (number_in bytes) refl e
-  where
-    there : (m : ℕ) (l : List ℕ) → number_in bytes ≡ Some (m, l) → (o : Option (List ℕ)) → after_in (c ∷ []) l ≡ o → option_and_then {U = ℕ × List ℕ} (λ (r : List ℕ). Some (m, r)) o ≡ Some (n, rest) → (bytes ≡ decimal n ++ c ∷ rest) × (n < 2 ^ 32)
-    there m l h None k e = cc
-    there m l h (Some r) k e =
-        let same0 = first_same m n r rest e in
-        let same1 = second_same m n r rest e in
-        let found = number_in_found bytes m l h in (
-          found.0 ∙ ap (λ q. decimal m ++ q) (after_found (c ∷ []) l r k) ∙ ap (λ z. decimal z ++ c ∷ r) same0 ∙ ap (λ q. decimal n ++ c ∷ q) same1,
-          let P : ℕ → Type 0 = λ z. z < 2 ^ 32 in subst P same0 found.1,
-        )
-
-    go : (o : Option (ℕ × List ℕ)) → number_in bytes ≡ o → option_and_then {U = ℕ × List ℕ} (λ (x : ℕ × List ℕ). option_and_then {U = ℕ × List ℕ} (λ (r : List ℕ). Some (x.0, r)) (after_in (c ∷ []) x.1)) o ≡ Some (n, rest) → (bytes ≡ decimal n ++ c ∷ rest) × (n < 2 ^ 32)
-    go None h e = cc
-    go (Some (m, l)) h e = there m l h (after_in (c ∷ []) l) refl e
 
 -- what stands behind the words
 tick_in_is : (now : ℕ) (rest : List ℕ) → now < 2 ^ 32 → tick_in (decimal now ++ 10 ∷ rest) ≡ Some (Tick now, rest)
@@ -157,9 +59,6 @@ life_in_is event group life now rest a b c =
     ap (option_and_then (λ (x : ℕ × List ℕ). option_and_then (λ (y : ℕ × List ℕ). option_and_then (λ (z : ℕ × List ℕ). Some (event x.0 y.0 z.0, z.1)) (number_before 10 y.1)) (number_before 32 x.1))) (number_before_is group 32 (decimal life ++ 32 ∷ (decimal now ++ 10 ∷ rest)) a refl)
     ∙ ap (option_and_then (λ (y : ℕ × List ℕ). option_and_then (λ (z : ℕ × List ℕ). Some (event group y.0 z.0, z.1)) (number_before 10 y.1))) (number_before_is life 32 (decimal now ++ 10 ∷ rest) b refl)
     ∙ ap (option_and_then (λ (z : ℕ × List ℕ). Some (event group life z.0, z.1))) (number_before_is now 10 rest c refl)
-
-two_parts : (a b rest : List ℕ) → (a ++ 32 ∷ (b ++ 10 ∷ [])) ++ rest ≡ a ++ 32 ∷ (b ++ 10 ∷ rest)
-two_parts a b rest = append_assoc a (32 ∷ (b ++ 10 ∷ [])) rest ∙ ap (λ l. a ++ 32 ∷ l) (append_assoc b (10 ∷ []) rest)
 
 three_parts : (a b c rest : List ℕ) → (a ++ 32 ∷ (b ++ 32 ∷ (c ++ 10 ∷ []))) ++ rest ≡ a ++ 32 ∷ (b ++ 32 ∷ (c ++ 10 ∷ rest))
 three_parts a b c rest = append_assoc a (32 ∷ (b ++ 32 ∷ (c ++ 10 ∷ []))) rest ∙ ap (λ l. a ++ 32 ∷ l) (two_parts b c rest)

@@ -1,21 +1,9 @@
 -- How the lines of an events file are read, from the front of the bytes.
-use Rattle.std.specs.Prelude.{ℕ, ◌+◌, ◌^◌, zero, suc, cond, List, [], ◌∷◌, ◌++◌, length, take, drop, Option, Some, None, Result, Ok, Err, codes, ◌==◌}
-use Rattle.std.specs.Borrow.{Bor}
-use Rattle.std.specs.Char.{is_ascii_digit}
-use Rattle.std.specs.List.{prefix_len}
+use Rattle.std.specs.Prelude.{ℕ, ◌+◌, zero, suc, cond, List, [], ◌∷◌, ◌++◌, length, Option, Some, None, Result, Ok, Err, codes, ◌==◌}
 use Rattle.std.specs.Option.{option_and_then}
 use Rattle.mls_model.specs.declared.launcher.Event.{Event}
 use Rattle.mls_model.specs.declared.launcher.Event.TheVariants.{Tick, Beat, Done, RankBeat}
-use Rattle.mls_text.specs.Decimals.{number_below}
-
--- what was read, with the bytes behind it, wherever they lie in memory
-abbrev pub seen : {A : Type 0} → Option (A × Bor (List ℕ)) → Option (A × List ℕ)
-seen None = None
-seen (Some x) = Some (x.0, x.1.now)
-
-abbrev pub seen_rest : Option (Bor (List ℕ)) → Option (List ℕ)
-seen_rest None = None
-seen_rest (Some rest) = Some rest.now
+use Rattle.mls_text.specs.Fronts.{number_before}
 
 -- the bytes behind a front
 abbrev pub after_in : List ℕ → List ℕ → Option (List ℕ)
@@ -27,14 +15,6 @@ after_in (c ∷ front) (b ∷ bytes) = cond (c == b) (after_in front bytes) None
 abbrev pub behind : {A : Type 0} → (List ℕ → A) → A → Option (List ℕ) → A
 behind there other None = other
 behind there other (Some rest) = there rest
-
--- the number that the digits at the front spell
-unfoldable pub number_in : List ℕ → Option (ℕ × List ℕ)
-number_in bytes = option_and_then (λ n. Some (n, drop (prefix_len is_ascii_digit bytes) bytes)) (number_below (2 ^ 32) (take (prefix_len is_ascii_digit bytes) bytes))
-
--- a number with a byte behind it
-unfoldable pub number_before : ℕ → List ℕ → Option (ℕ × List ℕ)
-number_before end bytes = option_and_then (λ (x : ℕ × List ℕ). option_and_then (λ (rest : List ℕ). Some (x.0, rest)) (after_in (end ∷ []) x.1)) (number_in bytes)
 
 -- what stands behind each of the four words
 unfoldable pub tick_in : List ℕ → Option (Event × List ℕ)

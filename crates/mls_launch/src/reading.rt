@@ -1,14 +1,13 @@
 //! The events file, a line for each event.
 
 ghost use Rattle.std.specs.Prelude.{◌≡◌, ◌≤◌, ℕ, List, [], ◌∷◌, length, Ok, IfOk, IfErr, MatchResult, false};
-ghost use Rattle.std.specs.List.{prefix_len};
-ghost use Rattle.std.specs.Char.{is_ascii_digit};
 ghost use Rattle.mls_launch.specs.EventsText.{events_text};
 ghost use Rattle.mls_launch.specs.EventFaults.{IsRefused, IsExact};
-ghost use Rattle.mls_launch.specs.EventReading.{seen, seen_rest, after_in, number_in, number_before, tick_in, rank_in, life_in, event_in, events_of};
+ghost use Rattle.mls_launch.specs.EventReading.{after_in, tick_in, rank_in, life_in, event_in, events_of};
+ghost use Rattle.mls_text.specs.Fronts.{seen, seen_rest};
 
 use mls_model::launcher::Event;
-use mls_text::small_canonical_number;
+use mls_text::number_before;
 use std::alloc::{AllocFailed, Global};
 
 /// Why bytes are no events file.
@@ -31,32 +30,6 @@ impl<T: Drop> From<AllocFailed<T>> for EventFault {
     }
 }
 
-/// How many digits stand at the front.
-#[tactic(auto, using(std::proofs::lemmas::List::Sums::prefix_len_is))]
-fn digit_count(bytes: &[u8]) -> usize
-    ensures value { result ≡ prefix_len is_ascii_digit bytes.now }
-    ensures within { result ≤ length bytes.now }
-{
-    for (i, byte) in bytes.iter().enumerate() {
-        if !byte.is_ascii_digit() {
-            return i;
-        }
-    }
-    bytes.len()
-}
-
-/// The number that the digits at the front spell, and the bytes behind it.
-#[tactic(auto, unfolding(crate::specs::EventReading::number_in))]
-fn number_in(bytes: &[u8]) -> Option<(u32, &[u8])>
-    ensures { seen result ≡ number_in bytes.now }
-{
-    let (digits, rest) = bytes.split_at(digit_count(bytes));
-    match small_canonical_number(digits) {
-        Some(number) => Some((number, rest)),
-        None => None,
-    }
-}
-
 /// The bytes behind a front.
 fn after<'a>(bytes: &'a [u8], front: &[u8]) -> Option<&'a [u8]>
     ensures { seen_rest result ≡ after_in front.now bytes.now }
@@ -68,16 +41,6 @@ fn after<'a>(bytes: &'a [u8], front: &[u8]) -> Option<&'a [u8]>
         }
     }
     None
-}
-
-/// A number with a byte behind it.
-#[tactic(auto, unfolding(crate::specs::EventReading::number_before))]
-fn number_before(bytes: &[u8], end: u8) -> Option<(u32, &[u8])>
-    ensures { seen result ≡ number_before end bytes.now }
-{
-    let (number, rest) = number_in(bytes)?;
-    let rest = after(rest, &[end])?;
-    Some((number, rest))
 }
 
 #[tactic(auto, unfolding(crate::specs::EventReading::tick_in))]

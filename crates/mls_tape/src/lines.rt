@@ -1,12 +1,12 @@
 //! The lines of a schedule, a rank and a lane each.
 
 ghost use Rattle.std.specs.Prelude.{◌≡◌, ◌≤◌, ◌<◌, ◌++◌, ◌∷◌, [], ℕ, List, length, map, replicate, get_or, Ok, IfOk, IfErr, OnOk, IfNone, MatchResult};
-ghost use Rattle.std.specs.List.{prefix_len, flat_map};
-ghost use Rattle.std.specs.Char.{is_ascii_digit};
+ghost use Rattle.std.specs.List.{flat_map};
 ghost use Rattle.mls_model.specs.Schedules.{schedule_line};
 ghost use Rattle.mls_tape.specs.ScheduleLines.{IsScheduleOf};
 ghost use Rattle.mls_tape.specs.ScheduleFaults.{IsRefused, IsExact};
-ghost use Rattle.mls_tape.specs.ScheduleReading.{seen, seen_rest, behind_byte, number_in, number_before, line_in, line_refusal, schedule_of};
+ghost use Rattle.mls_text.specs.Fronts.{seen};
+ghost use Rattle.mls_tape.specs.ScheduleReading.{line_in, line_refusal, schedule_of};
 ghost use Rattle.mls_tape.specs.Passed.{StandsFor, lists_seen};
 
 use crate::faults::SchedFault;
@@ -14,59 +14,8 @@ use crate::tape::Tape;
 use itoa::Buffer;
 use mls_base::faults::NoMemory;
 use mls_model::lanes::SchedWhy;
-use mls_text::small_canonical_number;
+use mls_text::number_before;
 use std::alloc::Global;
-
-/// How many digits stand at the front.
-#[tactic(auto, using(std::proofs::lemmas::List::Sums::prefix_len_is))]
-fn digit_count(bytes: &[u8]) -> usize
-    ensures value { result ≡ prefix_len is_ascii_digit bytes.now }
-    ensures within { result ≤ length bytes.now }
-{
-    for (i, byte) in bytes.iter().enumerate() {
-        if !byte.is_ascii_digit() {
-            return i;
-        }
-    }
-    bytes.len()
-}
-
-/// The number that the digits at the front spell, and the bytes behind it.
-#[tactic(auto, unfolding(crate::specs::ScheduleReading::number_in))]
-fn number_in(bytes: &[u8]) -> Option<(u32, &[u8])>
-    ensures { seen result ≡ number_in bytes.now }
-{
-    let (digits, rest) = bytes.split_at(digit_count(bytes));
-    match small_canonical_number(digits) {
-        Some(number) => Some((number, rest)),
-        None => None,
-    }
-}
-
-/// The bytes behind a byte at the front.
-fn behind_byte(bytes: &[u8], byte: u8) -> Option<&[u8]>
-    ensures { seen_rest result ≡ behind_byte byte bytes.now }
-{
-    match bytes.split_first() {
-        Some((first, rest)) => {
-            if *first == byte {
-                return Some(rest);
-            }
-            None
-        }
-        None => None,
-    }
-}
-
-/// A number with a byte behind it.
-#[tactic(auto, unfolding(crate::specs::ScheduleReading::number_before))]
-fn number_before(bytes: &[u8], end: u8) -> Option<(u32, &[u8])>
-    ensures { seen result ≡ number_before end bytes.now }
-{
-    let (number, rest) = number_in(bytes)?;
-    let rest = behind_byte(rest, end)?;
-    Some((number, rest))
-}
 
 /// The rank and the lane of the line at the front, and the bytes behind it.
 #[tactic(auto, unfolding(crate::specs::ScheduleReading::line_in))]

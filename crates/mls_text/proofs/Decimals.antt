@@ -12,10 +12,10 @@ use Rattle.std.proofs.lemmas.Slice.Eq.{bytes_eq-Decides}
 use Rattle.mls_model.specs.Numbers.{same_bytes}
 use Rattle.mls_text.specs.Decimals.{number_below}
 
-eq_same : (n : ℕ) → (n == n) ≡ true
+pub eq_same : (n : ℕ) → (n == n) ≡ true
 eq_same n = grind (arith, nat_tests)
 
-eq_true : (m n : ℕ) → (m == n) ≡ true → m ≡ n
+pub eq_true : (m n : ℕ) → (m == n) ≡ true → m ≡ n
 eq_true m n h = grind (arith, nat_tests)
 
 lt_true : (m n : ℕ) → nat_lt m n ≡ true → m < n
@@ -28,7 +28,7 @@ same_self : (xs : List ℕ) → same_bytes xs xs ≡ true
 same_self [] = refl
 same_self (x ∷ xs) = ap (λ b. b && same_bytes xs xs) (eq_same x) ∙ same_self xs
 
-both_true : (a b : Bool) → (a && b) ≡ true → (a ≡ true) × (b ≡ true)
+pub both_true : (a b : Bool) → (a && b) ≡ true → (a ≡ true) × (b ≡ true)
 both_true true b t = (refl, t)
 both_true false b t = cc
 
@@ -40,7 +40,7 @@ same_true (x ∷ xs) (y ∷ ys) t =
     let both = both_true (x == y) (same_bytes xs ys) t in
     ap (λ z. z ∷ xs) (eq_true x y both.0) ∙ ap (λ l. y ∷ l) (same_true xs ys both.1)
 
-own : IsNumeralModel (λ ds. all_ascii_digits ds ≡ true) (digits_value 10)
+pub own : IsNumeralModel (λ ds. all_ascii_digits ds ≡ true) (digits_value 10)
 own = numerals_by_value (λ ds. all_ascii_digits ds ≡ true) tells_all_ascii_digits
 
 -- a number's decimal is read

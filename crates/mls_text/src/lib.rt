@@ -9,12 +9,14 @@ ghost use Rattle.mls_model.specs.Numbers.{joined};
 ghost use Rattle.mls_text.specs.Writing.{Writes, GathersOn};
 
 mod decimal;
+mod reading;
 
 use arrayvec::ArrayVec;
 pub use decimal::{canonical_number, small_canonical_number};
 use mls_base::faults::Failed;
 use mls_base::outside::Sink;
 use mls_base::put::put_all;
+pub use reading::{number_before, number_in};
 
 /// Writes the bytes.
 pub fn put_bytes<O: Sink>(out: &mut O, bytes: &[u8]) -> Result<(), Failed>

@@ -1,7 +1,7 @@
 use Rattle.std.proofs.Common.{sym, length, arith}
 use Rattle.std.specs.Char.{is_ascii_digit}
 use Rattle.std.proofs.lemmas.List.Sums.{prefix_len_is}
-use Rattle.mls_tape.proofs.lines.digit_count.Goals as goal
+use Rattle.mls_text.proofs.reading.digit_count.Goals as goal
 
 pub returns-clause-value : goal.returns-clause-value
 returns-clause-value c =
