@@ -122,6 +122,7 @@ impl Martinez {
         requires rules { KeepsRules count parameters words.now }
         ensures count { count_of result ≡ count }
         ensures parameters { parameters_of result ≡ parameters }
+        ensures sums { (i : ℕ) → i < 4 + 4 * parameters → slice_index (sums_in result) i ≡ slice_index words.now i }
         ensures stands { (rows : List (List ℕ)) → length rows ≡ count → HoldsSums parameters words.now rows → StandsFor result rows }
     {
         let mut sums = no_sums();

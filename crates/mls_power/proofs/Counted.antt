@@ -1,5 +1,5 @@
 -- The numbers of samples above thresholds when a sample is added.
-use Rattle.std.proofs.Common.{◌≡◌, ℕ, zero, suc, ◌+◌, ◌<◌, ◌≤◌, List, [], ◌∷◌, ◌++◌, length, map, get_or, set, inl, inr, Bool, false, cond, ◌&&◌, pos, ap, ◌∙◌, refl, sym, subst, arith}
+use Rattle.std.proofs.Common.{◌≡◌, ℕ, zero, suc, ◌+◌, ◌<◌, List, [], ◌∷◌, ◌++◌, length, map, get_or, set, inl, inr, Bool, false, cond, ◌&&◌, pos, ap, ◌∙◌, refl, sym, subst, arith}
 use Rattle.std.specs.Prelude.{int_lt, nat_lt, IsTrue}
 use Rattle.std.specs.List.{count_by}
 use Rattle.std.proofs.lemmas.List.Sums.{sum_by-cons, sum_by_push}

@@ -4,6 +4,7 @@ pub mod Deviations
 pub mod Translates
 pub mod Bounds
 pub mod Values
+pub mod Lowered
 pub mod Least
 pub mod Counted
 pub mod Ruled

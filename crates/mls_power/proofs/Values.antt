@@ -74,6 +74,11 @@ second_lower k n p1 p2 p3 p4 ns are some =
     let whole = sum_difference square (lower k) (λ x. x * x + k * k) (λ x. x * k + k * x) (square_lower k) ns in
     one_number _ _ _ _ _ _ (natural (p2 + k * k * n - 2 * k * p1)) whole (omega (arith, squares_up k ns, squares_down k ns, are.second, ap (λ j. k * j) are.first, ap (λ j. j * (k * k)) are.count))
 
+pub second_difference : (k n p1 p2 p3 p4 : ℕ) (ns : List ℕ) → AreSums n p1 p2 p3 p4 ns → pos (p2 + k * k * n) -ℤ pos (2 * k * p1) ≡ squares (map (lower k) ns)
+second_difference k n p1 p2 p3 p4 ns are =
+    let whole = sum_difference square (lower k) (λ x. x * x + k * k) (λ x. x * k + k * x) (square_lower k) ns in
+    one_number _ _ _ _ _ _ (lower_by (2 * k * p1) (p2 + k * k * n)) whole (omega (arith, squares_up k ns, squares_down k ns, are.second, ap (λ j. k * j) are.first, ap (λ j. j * (k * k)) are.count))
+
 pub third_lower : (k n p1 p2 p3 p4 : ℕ) (ns : List ℕ) → AreSums n p1 p2 p3 p4 ns → pos (p3 + 3 * k * k * p1) -ℤ pos (3 * k * p2 + k * k * k * n) ≡ cubes (map (lower k) ns)
 third_lower k n p1 p2 p3 p4 ns are =
     let whole = sum_difference cube (lower k) (λ x. x * (x * x + k * k) + k * (x * k + k * x)) (λ x. x * (x * k + k * x) + k * (x * x + k * k)) (cube_lower k) ns in

@@ -1,5 +1,5 @@
 -- When power sums stand for a list of samples.
-use Rattle.std.specs.Prelude.{◌≡◌, ℕ, ◌*◌, List, length, sum_by, ℤ, pos}
+use Rattle.std.specs.Prelude.{◌≡◌, ℕ, ◌+◌, ◌*◌, List, length, sum_by, ℤ, pos, ◌-ℤ◌}
 use Rattle.mls_model.specs.Statistics.{total, squares, cubes, fourths}
 use Rattle.mls_power.specs.declared.power.Power.{Power}
 use Rattle.mls_power.specs.declared.power.Powers.{Powers}
@@ -35,3 +35,17 @@ pub record ArePowers (p : Powers) (values : List ℤ) : Type 0 where
   pub second : pos p.p2 ≡ squares values
   pub third : p.p3 ≡ cubes values
   pub fourth : p.p4 ≡ fourths values
+
+-- the sums of the powers of values, in one pass from those of samples that are each so much more
+pub record AreLowered (h : ℕ) (p : Power) (powers : Powers) : Type 0 where
+  pub first : powers.p1 ≡ pos (first_of p) -ℤ pos (h * count_of p)
+  pub second : pos powers.p2 ≡ pos (second_of p + h * h * count_of p) -ℤ pos (2 * h * first_of p)
+  pub third : powers.p3 ≡ pos (third_of p + 3 * (h * h) * first_of p) -ℤ pos (3 * h * second_of p + h * h * h * count_of p)
+  pub fourth : powers.p4 ≡ pos (fourth_of p + 6 * (h * h) * second_of p + h * h * (h * h) * count_of p) -ℤ pos (4 * h * third_of p + 4 * (h * h * h) * first_of p)
+
+-- V and U in one pass
+abbrev pub variance_in : Power → ℤ
+variance_in p = pos (count_of p * second_of p) -ℤ pos (first_of p * first_of p)
+
+abbrev pub third_moment_in : Power → ℤ
+third_moment_in p = pos (count_of p * count_of p * third_of p + 2 * (first_of p * first_of p * first_of p)) -ℤ pos (3 * (count_of p * first_of p * second_of p))

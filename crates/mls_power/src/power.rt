@@ -34,7 +34,9 @@ impl Power {
     ghost use Rattle.mls_model.specs.Statistics.{variance_top, third_top};
     ghost use Rattle.mls_power.specs.PowerSums.{HoldsSums, AreInRange};
     ghost use Rattle.mls_power.specs.Rules.{AreSums};
-    ghost use Rattle.mls_power.specs.Standing.{count_of, first_of, second_of, third_of, fourth_of, StandsFor, ArePowers};
+    ghost use Rattle.mls_power.specs.Standing.{count_of, first_of, second_of, third_of, fourth_of, StandsFor, ArePowers, AreLowered, variance_in, third_moment_in};
+    ghost use Rattle.mls_power.specs.PowerSums.{first_in, second_in, third_in, fourth_in};
+    ghost use Rattle.mls_model.specs.SumsText.{height};
 
     /// The sums of no samples.
     pub fn new() -> Power
@@ -52,6 +54,10 @@ impl Power {
         requires size { length words.now ≡ 6 }
         requires range { AreInRange count words.now }
         ensures count { count_of result ≡ count }
+        ensures first { first_of result ≡ first_in words.now }
+        ensures second { second_of result ≡ second_in words.now }
+        ensures third { third_of result ≡ third_in words.now }
+        ensures fourth { fourth_of result ≡ fourth_in words.now }
         ensures sums { (ws : List ℕ) → length ws ≡ count → HoldsSums words.now ws → StandsFor result ws }
     {
         let sums = [words[0], words[1], words[2], words[3], words[4], words[5]];
@@ -146,7 +152,8 @@ impl Power {
 
     /// The power sums of the values that the samples are kept for. Where these are signed a sample is its value plus 32,768.
     pub fn powers(&self, signed: bool) -> Powers
-        ensures { (ws : List ℕ) → StandsFor self.now ws → ArePowers result (map (unshifted signed) ws) }
+        ensures formulas { AreLowered (height signed) self.now result }
+        ensures values { (ws : List ℕ) → StandsFor self.now ws → ArePowers result (map (unshifted signed) ws) }
     {
         if signed {
             self.signed_powers()
@@ -162,7 +169,8 @@ impl Power {
 
     // The power sums of numbers that are each 32,768 less.
     fn signed_powers(&self) -> Powers
-        ensures { (ws : List ℕ) → StandsFor self.now ws → ArePowers result (map (unshifted true) ws) }
+        ensures formulas { AreLowered 32768 self.now result }
+        ensures values { (ws : List ℕ) → StandsFor self.now ws → ArePowers result (map (unshifted true) ws) }
     {
         let count = self.count as u64;
         let first = self.p1();
@@ -183,6 +191,7 @@ impl Power {
 
     /// V of the samples: with N samples, N · V is the sum of (N · w − p1)², and the variance is V / (N · (N − 1)). It is the same for the values that they are kept for.
     pub fn variance_top(&self) -> i128
+        ensures formula { result ≡ variance_in self.now }
         ensures samples { (ws : List ℕ) → StandsFor self.now ws → result ≡ variance_top (map pos ws) }
         ensures values { (signed : Bool) (ws : List ℕ) → StandsFor self.now ws → result ≡ variance_top (map (unshifted signed) ws) }
     {
@@ -195,6 +204,7 @@ impl Power {
 
     /// U of the samples: with N samples, N · U is the sum of (N · w − p1)³, and the third central moment is U / N³. It is the same for the values that they are kept for.
     pub fn third_top(&self) -> i128
+        ensures formula { result ≡ third_moment_in self.now }
         ensures samples { (ws : List ℕ) → StandsFor self.now ws → result ≡ third_top (map pos ws) }
         ensures values { (signed : Bool) (ws : List ℕ) → StandsFor self.now ws → result ≡ third_top (map (unshifted signed) ws) }
     {

@@ -1,4 +1,4 @@
-use Rattle.std.proofs.Common.{◌≡◌, ℕ, ◌+◌, List, length, get_or, cond, nat_lt, ap, ◌∙◌, subst, arith}
+use Rattle.std.proofs.Common.{◌≡◌, ℕ, ◌+◌, length, get_or, cond, nat_lt, ap, ◌∙◌, subst, arith}
 use Rattle.std.proofs.lemmas.List.{length-set}
 use Rattle.mls_power.proofs.Counted.{AreDone, counted, range_more}
 use Rattle.mls_power.proofs.above.add_above.Goals as goal

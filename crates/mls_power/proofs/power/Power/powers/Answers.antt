@@ -3,13 +3,26 @@ use Rattle.std.specs.Int.{w128}
 use Rattle.std.proofs.lemmas.Int.{ints}
 use Rattle.mls_model.specs.Samples.{unshifted}
 use Rattle.mls_power.specs.declared.power.Powers.{Powers}
-use Rattle.mls_power.specs.Standing.{ArePowers}
+use Rattle.mls_model.specs.SumsText.{height}
+use Rattle.mls_power.specs.Standing.{ArePowers, AreLowered}
 use Rattle.mls_power.proofs.Values.{sum-pos}
 use Rattle.mls_model.specs.Numbers.{square, cube}
 use Rattle.mls_power.proofs.power.Power.powers.Goals as goal
 
-pub returns-else-signed : goal.returns-else-signed
-returns-else-signed c = λ ws stands.
+pub returns-else-signed-clause-formulas : goal.returns-else-signed-clause-formulas
+returns-else-signed-clause-formulas c =
+    let p = c.args.self.now in
+    let all : Powers = record { p1 = to_z w64 c.p1.result; p2 = c.p2.result; p3 = to_z w128 c.p3.result; p4 = to_z w128 c.p4.result } in
+    let plain : AreLowered 0 p all = record {
+      first = omega (arith, ints, c.p1.ensures);
+      second = omega (arith, ints, c.p2.ensures);
+      third = omega (arith, ints, c.p3.ensures);
+      fourth = omega (arith, ints, c.p4.ensures);
+    } in
+    subst (λ (b : Bool). AreLowered (height b) p all) (sym c.if-signed.false) plain
+
+pub returns-else-signed-clause-values : goal.returns-else-signed-clause-values
+returns-else-signed-clause-values c = λ ws stands.
     let p = c.args.self.now in
     let all : Powers = record { p1 = to_z w64 c.p1.result; p2 = c.p2.result; p3 = to_z w128 c.p3.result; p4 = to_z w128 c.p4.result } in
     let small : to_z w64 c.p1.result ≡ pos c.p1.result = omega (arith, ints) in

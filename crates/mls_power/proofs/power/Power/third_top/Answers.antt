@@ -1,4 +1,4 @@
-use Rattle.std.proofs.Common.{List, sym, ℕ, ◌∙◌, ◌+◌, ◌*◌, arith}
+use Rattle.std.proofs.Common.{List, sym, ℕ, ◌∙◌, ◌+◌, ◌*◌, pos, ◌-ℤ◌, arith}
 use Rattle.std.proofs.lemmas.Int.{ints}
 use Rattle.mls_power.specs.Standing.{StandsFor}
 use Rattle.mls_power.proofs.Translates.{third_shifted}
@@ -24,4 +24,5 @@ returns c =
     let p3 = c.p3.result in
     let small = small_cube n p1 p2 p3 (record { count = omega arith; first = omega arith; second = omega arith; third = omega arith }) in
     let over_samples = λ (ws : List ℕ) (stands : StandsFor p ws). cast_difference (n * n * p3 + 2 * (p1 * p1 * p1)) (3 * (n * p1 * p2)) small.1 small.2 ∙ third_from n p1 p2 p3 ws stands.count (c.p1-first.ensures ∙ stands.first) (c.p2.ensures ∙ stands.second) (c.p3.ensures ∙ stands.third) in
-    record { samples = over_samples; values = λ signed ws stands. over_samples ws stands ∙ sym (third_shifted signed ws) }
+    let formula = cast_difference (n * n * p3 + 2 * (p1 * p1 * p1)) (3 * (n * p1 * p2)) small.1 small.2 ∙ (λ i. pos (n * n * c.p3.ensures i + 2 * (c.p1-first.ensures i * c.p1-first.ensures i * c.p1-first.ensures i)) -ℤ pos (3 * (n * c.p1-first.ensures i * c.p2.ensures i))) in
+    record { formula = formula; samples = over_samples; values = λ signed ws stands. over_samples ws stands ∙ sym (third_shifted signed ws) }
