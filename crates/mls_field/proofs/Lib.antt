@@ -1,5 +1,6 @@
 pub mod Parts
 pub mod Rows
 pub mod Grid
+pub mod Kept
 pub mod Added
 pub mod Zeros

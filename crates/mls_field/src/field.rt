@@ -101,12 +101,17 @@ impl Field {
     ghost use Rattle.mls_cov.specs.Standing.{count_of as martinez_count_of, parameters_of, StandsFor as MartinezStandsFor};
     ghost use Rattle.mls_field.specs.Stands.{shape_of, rank_of, row_count, StandsFor};
     ghost use Rattle.mls_field.specs.ShiftedRows.{shifted_outputs};
+    ghost use Rattle.mls_field.specs.Kept.{sums_at, HasPowers, HasEnds, HasNumbers, HasProducts, HasValuePowers};
+    ghost use Rattle.mls_model.specs.CellSums.{sums_of};
+    ghost use Rattle.mls_model.specs.SumsText.{height, variance_of, third_of};
 
     /// How many rows were added to a plane.
     pub fn rows(&self, step: u32) -> u32
         requires { step < planes (shape_of self.now) }
         ensures value { result ≡ row_count self.now step }
         ensures few { result ≤ 65535 }
+        ensures kept { (place : ℕ) → (sums_at self.now step place).rows ≡ result }
+        ensures sums { (t : Table) → StandsFor self.now t → (place : ℕ) → place < width (block (shape_of self.now) (rank_of self.now)) → sums_at self.now step place ≡ sums_of (shape_of self.now).parameters (shape_of self.now).thresholds (t step place) }
         ensures table { (t : Table) → StandsFor self.now t → (place : ℕ) → place < width (block (shape_of self.now) (rank_of self.now)) → length (t step place) ≡ result }
     {
         self.counts[step as usize]
@@ -130,6 +135,7 @@ impl Field {
         requires step_in { step < planes (shape_of self.now) }
         requires cell_in { cell < width (block (shape_of self.now) (rank_of self.now)) }
         ensures count { count_of result ≡ 2 * row_count self.now step }
+        ensures kept { HasPowers (sums_at self.now step cell) result }
         ensures sums { (t : Table) → StandsFor self.now t → PowerStandsFor result (shifted_outputs (t step cell)) }
     {
         let at = self.cell(step, cell) * POWER_WORDS;
@@ -140,6 +146,7 @@ impl Field {
     pub fn extrema(&self, step: u32, cell: u32) -> Extrema
         requires step_in { step < planes (shape_of self.now) }
         requires cell_in { cell < width (block (shape_of self.now) (rank_of self.now)) }
+        ensures kept { HasEnds (sums_at self.now step cell) result }
         ensures ends { (t : Table) → StandsFor self.now t → ExtremaStandFor result (shifted_outputs (t step cell)) }
         ensures outputs { (t : Table) → StandsFor self.now t → outputs (map (map (unshifted (shape_of self.now).signed)) (t step cell)) ≡ map (unshifted (shape_of self.now).signed) (shifted_outputs (t step cell)) }
     {
@@ -152,6 +159,7 @@ impl Field {
         requires step_in { step < planes (shape_of self.now) }
         requires cell_in { cell < width (block (shape_of self.now) (rank_of self.now)) }
         ensures count { exceed_count_of result ≡ 2 * row_count self.now step }
+        ensures kept { HasNumbers (length (shape_of self.now).thresholds) (sums_at self.now step cell) result }
         ensures numbers { (t : Table) → StandsFor self.now t → ExceedStandsFor (shape_of self.now).thresholds result (shifted_outputs (t step cell)) }
         ensures outputs { (t : Table) → StandsFor self.now t → outputs (map (map (unshifted (shape_of self.now).signed)) (t step cell)) ≡ map (unshifted (shape_of self.now).signed) (shifted_outputs (t step cell)) }
     {
@@ -166,6 +174,7 @@ impl Field {
         requires cell_in { cell < width (block (shape_of self.now) (rank_of self.now)) }
         ensures count { martinez_count_of result ≡ row_count self.now step }
         ensures parameters { parameters_of result ≡ (shape_of self.now).parameters }
+        ensures kept { HasProducts (shape_of self.now).parameters (sums_at self.now step cell) result }
         ensures sums { (t : Table) → StandsFor self.now t → MartinezStandsFor result (t step cell) }
     {
         let parameters = self.shape.parameters();
@@ -178,7 +187,8 @@ impl Field {
     pub fn powers(&self, step: u32, cell: u32) -> Powers
         requires step_in { step < planes (shape_of self.now) }
         requires cell_in { cell < width (block (shape_of self.now) (rank_of self.now)) }
-        ensures { (t : Table) → StandsFor self.now t → ArePowers result (outputs (map (map (unshifted (shape_of self.now).signed)) (t step cell))) }
+        ensures kept { HasValuePowers (height (shape_of self.now).signed) (sums_at self.now step cell) result }
+        ensures values { (t : Table) → StandsFor self.now t → ArePowers result (outputs (map (map (unshifted (shape_of self.now).signed)) (t step cell))) }
     {
         self.power(step, cell).powers(self.shape.signed())
     }
@@ -187,7 +197,8 @@ impl Field {
     pub fn variance_top(&self, step: u32, cell: u32) -> i128
         requires step_in { step < planes (shape_of self.now) }
         requires cell_in { cell < width (block (shape_of self.now) (rank_of self.now)) }
-        ensures { (t : Table) → StandsFor self.now t → result ≡ variance_top (outputs (map (map (unshifted (shape_of self.now).signed)) (t step cell))) }
+        ensures kept { result ≡ variance_of (sums_at self.now step cell) }
+        ensures values { (t : Table) → StandsFor self.now t → result ≡ variance_top (outputs (map (map (unshifted (shape_of self.now).signed)) (t step cell))) }
     {
         self.power(step, cell).variance_top()
     }
@@ -196,7 +207,8 @@ impl Field {
     pub fn third_top(&self, step: u32, cell: u32) -> i128
         requires step_in { step < planes (shape_of self.now) }
         requires cell_in { cell < width (block (shape_of self.now) (rank_of self.now)) }
-        ensures { (t : Table) → StandsFor self.now t → result ≡ third_top (outputs (map (map (unshifted (shape_of self.now).signed)) (t step cell))) }
+        ensures kept { result ≡ third_of (sums_at self.now step cell) }
+        ensures values { (t : Table) → StandsFor self.now t → result ≡ third_top (outputs (map (map (unshifted (shape_of self.now).signed)) (t step cell))) }
     {
         self.power(step, cell).third_top()
     }

@@ -1,10 +1,13 @@
-use Rattle.std.proofs.Common.{◌≡◌, ℕ, ◌+◌, ◌-◌, ◌*◌, ◌<◌, List, length, take, drop, ap, ◌∙◌, sym, subst, arith}
+use Rattle.std.proofs.Common.{◌≡◌, ℕ, ◌+◌, ◌-◌, ◌*◌, ◌<◌, List, length, slice_index, take, drop, ap, ◌∙◌, sym, subst, arith}
 use Rattle.mls_power.specs.NumbersAbove.{HoldsAbove}
 use Rattle.mls_power.specs.Rules.{AreNumbersAbove}
 use Rattle.mls_field.specs.Cells.{cell_of}
 use Rattle.mls_field.specs.ShiftedRows.{shifted_outputs}
 use Rattle.mls_field.proofs.Parts.{part_of_size, length_part}
 use Rattle.mls_field.proofs.Rows.{length-shifted_outputs, outputs_are}
+use Rattle.mls_model.specs.Studies.{planes}
+use Rattle.mls_field.proofs.Grid.{cell_fits}
+use Rattle.mls_field.proofs.Kept.{length-cell}
 use Rattle.mls_field.proofs.field.Field.exceed.Goals as goal
 
 pub unpacked-requires-clause-range : goal.unpacked-requires-clause-range
@@ -33,3 +36,16 @@ pub returns-clause-outputs : goal.returns-clause-outputs
 returns-clause-outputs c = λ t stands.
     let f = c.args.self.now in
     outputs_are f.shape.signed f.shape.parameters (t c.args.step c.args.cell) (stands.whole c.args.step c.args.cell c.requires.step_in (omega (arith, f.kept.block_width, c.requires.cell_in)))
+
+pub returns-clause-kept : goal.returns-clause-kept
+returns-clause-kept c =
+    let f = c.args.self.now in
+    let cell = c.args.step * f.places + c.args.cell in
+    let size = c.thresholds-size.result in
+    let below : c.args.cell < f.places = omega (arith, f.kept.block_width, c.requires.cell_in) in
+    let same = part_of_size (length f.shape.thresholds) size f.numbers.items c.deref.result.now cell _ c.thresholds-size.ensures.value c.deref.ensures.value (ap (λ (k : ℕ). k * size) c.cell.ensures.value) in
+    record {
+      count = c.unpacked.ensures.count ∙ ap (λ (k : ℕ). 2 * k) c.rows.ensures.value;
+      long = length-cell (length f.shape.thresholds) f.numbers.items cell (planes f.shape * f.places) f.kept.numbers_in.long (omega (arith, cell_fits c.args.step f.places c.args.cell (planes f.shape) c.requires.step_in below));
+      numbers = λ i. c.unpacked.ensures.numbers i ∙ ap (λ (ws : List ℕ). slice_index ws i) same;
+    }

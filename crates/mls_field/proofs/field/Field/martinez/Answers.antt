@@ -1,4 +1,4 @@
-use Rattle.std.proofs.Common.{◌≡◌, ℕ, ◌+◌, ◌*◌, ◌<◌, List, ap, ◌∙◌, sym, subst, arith}
+use Rattle.std.proofs.Common.{◌≡◌, ℕ, ◌+◌, ◌*◌, ◌<◌, List, slice_index, ap, ◌∙◌, sym, subst, arith}
 use Rattle.mls_cov.specs.Rules.{KeepsRules}
 use Rattle.mls_cov.specs.Sums.{HoldsSums}
 use Rattle.mls_field.specs.Cells.{cell_of}
@@ -29,3 +29,17 @@ returns-clause-sums c = λ t stands.
     c.unpacked.ensures.stands rows (stands.counted c.args.step c.args.cell c.requires.step_in below ∙ sym c.rows.ensures.value)
     (subst (λ (ws : List ℕ). HoldsSums c.parameters-parameters.result ws rows) (sym (part_of_size (4 + 4 * p) size f.products.items c.deref.result.now cell _ same c.deref.ensures.value (ap (λ (k : ℕ). k * size) c.cell.ensures.value)))
     (subst (λ (q : ℕ). HoldsSums q (cell_of (4 + 4 * p) f.products.items cell) rows) (sym c.parameters-parameters.ensures.value) (stands.products_of.each c.args.step c.args.cell c.requires.step_in below)))
+
+pub returns-clause-kept : goal.returns-clause-kept
+returns-clause-kept c =
+    let f = c.args.self.now in
+    let p = f.shape.parameters in
+    let cell = c.args.step * f.places + c.args.cell in
+    let size = c.sum_count-size.result in
+    let same : size ≡ 4 + 4 * p = omega (arith, c.sum_count-size.ensures, c.parameters-parameters.ensures.value) in
+    let part = part_of_size (4 + 4 * p) size f.products.items c.deref.result.now cell _ same c.deref.ensures.value (ap (λ (k : ℕ). k * size) c.cell.ensures.value) in
+    record {
+      count = c.unpacked.ensures.count ∙ c.rows.ensures.value;
+      sized = c.unpacked.ensures.parameters ∙ c.parameters-parameters.ensures.value;
+      sums = λ i h. c.unpacked.ensures.sums i (omega (arith, h, c.parameters-parameters.ensures.value)) ∙ ap (λ (ws : List ℕ). slice_index ws i) part;
+    }
