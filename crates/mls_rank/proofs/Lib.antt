@@ -1,3 +1,4 @@
 pub mod Keeping
 pub mod Stepping
 pub mod Waiting
+pub mod Folds

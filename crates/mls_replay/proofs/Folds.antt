@@ -17,7 +17,7 @@ use Rattle.mls_rank.specs.declared.rank_core.RankCore.{RankCore}
 use Rattle.mls_rank.specs.Cores.{sizes_of, rank_of}
 use Rattle.mls_rank.specs.Standing.{StandsFor}
 use Rattle.mls_result.specs.Histories.{AreCores, AllStand, history_text}
-use Rattle.mls_replay.specs.Folding.{order_of, histories_of}
+use Rattle.mls_replay.specs.Folding.{histories_of}
 
 -- The first n cores: one for each of the first n ranks, in order, each standing for its rank's history.
 pub record AreFirst {F : Type 0} {T : Ghosts F} (s : Sizes) (histories : ℕ → List Event) (n : ℕ) (cores : List (RankCore F T)) : Type 0 where

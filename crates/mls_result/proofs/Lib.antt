@@ -1,11 +1,12 @@
 pub mod CellText
 pub mod Ends
-pub mod Loops
 pub mod Named
 pub mod Numbers
 pub mod Parameters
 pub mod Powers
 pub mod RankLines
+pub mod RowsText
 pub mod Splits
+pub mod States
 pub mod Texts
 pub mod Whole

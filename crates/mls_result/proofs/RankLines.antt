@@ -1,6 +1,8 @@
 -- The lines of ranks, counted from 0.
-use Rattle.std.proofs.Common.{◌≡◌, List, ℕ, zero, suc, [], ◌∷◌, ◌+◌, ◌<◌, ◌≤◌, length, map, drop, get_or, Option, refl, sym, ◌∙◌, ap, subst, arith}
+use Rattle.std.proofs.Common.{◌≡◌, List, ℕ, ◌+◌, ◌<◌, ◌≤◌, length, map, drop, get_or, Option, sym, ◌∙◌, ap, subst, arith}
 use Rattle.std.specs.List.{flat_map, enumerate_from}
+use Rattle.std.proofs.lemmas.List.{length-map, get_or-map, get_or_default}
+use Rattle.std.proofs.lemmas.List.FromFn.{length-enumerate_from, get_or-enumerate_from}
 use Rattle.mls_base.specs.Told.{appended, WroteFront}
 use Rattle.mls_model.specs.declared.outcomes.Counts.{Counts}
 use Rattle.mls_model.specs.ResultText.{rank_line}
@@ -9,17 +11,13 @@ use Rattle.mls_text.proofs.Writing.{IsFrontOut, texts_more, texts_failed, texts_
 abbrev pub line_of_rank : ℕ × Counts → List ℕ
 line_of_rank p = rank_line p.0 p.1
 
-length-enumerated : {X Y : Type 0} (f : X → Y) (n : ℕ) (xs : List X) → length (enumerate_from n (map f xs)) ≡ length xs
-length-enumerated f n [] = refl
-length-enumerated f n (x ∷ xs) = ap suc (length-enumerated f (n + 1) xs)
-
-at_enumerated : {X Y : Type 0} (f : X → Y) (n i : ℕ) (xs : List X) (dx : X) (d : ℕ × Y) → i < length xs → ◌≡◌ {A = ℕ × Y} (get_or (enumerate_from n (map f xs)) i d) (n + i, f (get_or xs i dx))
-at_enumerated {X} {Y} f n i [] dx d here = absurd (omega arith)
-at_enumerated {X} {Y} f n zero (x ∷ xs) dx d here = ap (λ (m : ℕ). let p : ℕ × Y = (m, f x) in p) (omega arith)
-at_enumerated {X} {Y} f n (suc i) (x ∷ xs) dx d here = at_enumerated f (n + 1) i xs dx d (omega arith) ∙ ap (λ (m : ℕ). let p : ℕ × Y = (m, f (get_or xs i dx)) in p) (omega arith)
+length-numbered : {X : Type 0} (f : X → Counts) (xs : List X) → length (enumerate_from 0 (map f xs)) ≡ length xs
+length-numbered f xs = length-enumerate_from 0 (map f xs) ∙ length-map xs f
 
 line_at : {X : Type 0} (f : X → Counts) (i : ℕ) (xs : List X) (dx : X) (d : ℕ × Counts) → i < length xs → line_of_rank (get_or (enumerate_from 0 (map f xs)) i d) ≡ rank_line i (f (get_or xs i dx))
-line_at f i xs dx d here = ap line_of_rank (at_enumerated f 0 i xs dx d here) ∙ ap (λ m. rank_line m (f (get_or xs i dx))) (omega arith)
+line_at f i xs dx d here =
+    ap line_of_rank (get_or-enumerate_from 0 (map f xs) i d (omega (arith, here, length-map xs f)) ∙ ap (λ (n : Counts). let p : ℕ × Counts = (0 + i, n) in p) (get_or_default (map f xs) i d.1 (f dx) (omega (arith, here, length-map xs f)) ∙ get_or-map f xs i dx (f dx) here))
+    ∙ ap (λ m. rank_line m (f (get_or xs i dx))) (omega arith)
 
 -- the pair of a core's place and its counts, for a list that has one
 pair_of : {X : Type 0} (f : X → Counts) (dx : X) → ℕ × Counts
@@ -27,14 +25,14 @@ pair_of f dx = (0, f dx)
 
 pub rank_more : {X : Type 0} (f : X → Counts) (i : ℕ) (xs : List X) (dx : X) (text : List ℕ) (old mid new : Option (List ℕ)) (before now after : ℕ) → i < length xs → IsFrontOut (flat_map line_of_rank (drop i (enumerate_from 0 (map f xs)))) text old mid before now → new ≡ appended mid (rank_line i (f (get_or xs i dx))) → after ≡ now → IsFrontOut (flat_map line_of_rank (drop (i + 1) (enumerate_from 0 (map f xs)))) text old new before after
 rank_more f i xs dx text old mid new before now after here out is_new is_now =
-    let there : i < length (enumerate_from 0 (map f xs)) = omega (arith, here, length-enumerated f 0 xs) in
+    let there : i < length (enumerate_from 0 (map f xs)) = omega (arith, here, length-numbered f xs) in
     texts_more line_of_rank i (enumerate_from 0 (map f xs)) (pair_of f dx) text old mid new before now after there out (is_new ∙ ap (appended mid) (sym (line_at f i xs dx (pair_of f dx) here))) is_now
 
 pub rank_failed : {X : Type 0} (f : X → Counts) (i : ℕ) (xs : List X) (dx : X) (text : List ℕ) (old mid new : Option (List ℕ)) (before now : ℕ) → i < length xs → IsFrontOut (flat_map line_of_rank (drop i (enumerate_from 0 (map f xs)))) text old mid before now → WroteFront mid new (rank_line i (f (get_or xs i dx))) → WroteFront old new text
 rank_failed f i xs dx text old mid new before now here out failed =
-    let there : i < length (enumerate_from 0 (map f xs)) = omega (arith, here, length-enumerated f 0 xs) in
+    let there : i < length (enumerate_from 0 (map f xs)) = omega (arith, here, length-numbered f xs) in
     texts_failed line_of_rank i (enumerate_from 0 (map f xs)) (pair_of f dx) text old mid new before now there out (subst (WroteFront mid new) (sym (line_at f i xs dx (pair_of f dx) here)) failed)
 
 pub ranks_all : {X : Type 0} (f : X → Counts) (i : ℕ) (xs : List X) (text : List ℕ) (old new : Option (List ℕ)) (before now : ℕ) → length xs ≤ i → IsFrontOut (flat_map line_of_rank (drop i (enumerate_from 0 (map f xs)))) text old new before now → new ≡ appended old text
 ranks_all f i xs text old new before now past out =
-    texts_all line_of_rank i (enumerate_from 0 (map f xs)) text old new before now (omega (arith, past, length-enumerated f 0 xs)) out
+    texts_all line_of_rank i (enumerate_from 0 (map f xs)) text old new before now (omega (arith, past, length-numbered f xs)) out

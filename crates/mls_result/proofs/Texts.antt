@@ -1,21 +1,11 @@
 -- The parts of the text of a study, from its history.
 use Rattle.std.proofs.Common.{◌≡◌, List, ℕ, [], ◌<◌, ◌≤◌, Option, Some, None, sym, ap, arith}
-use Rattle.mls_model.specs.Studies.{Sizes, Study, plane_of}
+use Rattle.mls_model.specs.Studies.{Sizes}
 use Rattle.mls_model.specs.Blocks.{block, rank_of}
 use Rattle.mls_model.specs.Histories.{Event}
 use Rattle.mls_model.specs.AcceptedRows.{rows}
-use Rattle.mls_model.specs.ResultText.{cell_text, field_text, step_text}
 use Rattle.mls_base.proofs.Sharing.{share_found, holder, holder_holds, holder_within, bounds}
 use Rattle.mls_result.specs.Histories.{pieces_of, history_rows}
-
-abbrev pub text_of_cell : Study → ℕ → ℕ → (ℕ → List Event) → ℕ → List ℕ
-text_of_cell study step field histories x = cell_text study step field x (history_rows study.sizes histories (plane_of study.sizes step field) x)
-
-abbrev pub text_of_field : Study → ℕ → (ℕ → List Event) → ℕ → List ℕ
-text_of_field study step histories field = field_text study step field (history_rows study.sizes histories)
-
-abbrev pub text_of_step : Study → (ℕ → List Event) → ℕ → List ℕ
-text_of_step study histories step = step_text study step (history_rows study.sizes histories)
 
 -- the rows of a cell are those of the history of the rank whose block holds it
 pub rows_are : (s : Sizes) (histories : ℕ → List Event) (rank plane x : ℕ) → rank_of s x ≡ Some rank → rows s rank plane x (pieces_of s rank (histories rank)) ≡ history_rows s histories plane x
@@ -28,3 +18,6 @@ holder_is_found s x some here = (share_found s.cells s.ranks x (holder s.cells s
 
 pub holder_bounds : (s : Sizes) (x : ℕ) → 1 ≤ s.ranks → x < s.cells → ((block s (holder s.cells s.ranks x)).first ≤ x) × (x < (block s (holder s.cells s.ranks x)).end)
 holder_bounds s x some here = bounds (block s (holder s.cells s.ranks x)) x (holder_holds s.cells s.ranks x some (omega (arith, here)))
+
+pub holder_within_ranks : (s : Sizes) (x : ℕ) → 1 ≤ s.ranks → x < s.cells → holder s.cells s.ranks x < s.ranks
+holder_within_ranks s x some here = holder_within s.cells s.ranks x some here

@@ -1,12 +1,12 @@
 -- The lines of the result text, from the numbers that they print.
-use Rattle.std.specs.Prelude.{ℕ, ◌-◌, ◌*◌, ◌^◌, ◌<◌, ◌≤◌, List, [], ◌∷◌, ◌++◌, ℤ, pos, ◌-ℤ◌, Option, codes, decimal, unsigned_abs}
+use Rattle.std.specs.Prelude.{ℕ, ◌*◌, ◌^◌, ◌<◌, ◌≤◌, List, [], ◌∷◌, ℤ, pos, ◌-ℤ◌, Option, codes, decimal, unsigned_abs}
 use Rattle.std.specs.Option.{option_map}
 use Rattle.std.specs.Fmt.{signed_decimal}
 use Rattle.mls_model.specs.declared.lanes.LaneLine.{LaneLine}
 use Rattle.mls_model.specs.Numbers.{joined}
-use Rattle.mls_model.specs.Studies.{Sizes, Study}
+use Rattle.mls_model.specs.Studies.{Sizes}
 use Rattle.mls_model.specs.Indices.{rho6}
-use Rattle.mls_model.specs.ResultText.{title, kind_word, index_words, power_lines, extrema_lines, exceed_lines, index_lines}
+use Rattle.mls_model.specs.ResultText.{title, kind_word, index_words, power_words as powers_said, variance_words as variance_said, third_words as third_said, extrema_words as extrema_said}
 use Rattle.mls_cov.specs.declared.martinez.IndexParts.{IndexParts}
 
 -- the end of a line
@@ -38,15 +38,15 @@ lane_start l = joined (codes "lane " ∷ decimal l.lane ∷ codes " rank " ∷ d
 
 -- power P1 P2 P3 P4
 unfoldable pub power_words : ℤ → ℤ → ℤ → ℤ → List ℕ
-power_words p1 p2 p3 p4 = joined (codes "power " ∷ signed_decimal p1 ∷ codes " " ∷ signed_decimal p2 ∷ codes " " ∷ signed_decimal p3 ∷ codes " " ∷ signed_decimal p4 ∷ codes "\n" ∷ [])
+power_words p1 p2 p3 p4 = powers_said p1 p2 p3 p4
 
 -- variance V/D
 unfoldable pub variance_words : ℤ → ℕ → List ℕ
-variance_words top n = joined (codes "variance " ∷ signed_decimal top ∷ codes "/" ∷ decimal (n * (n - 1)) ∷ codes "\n" ∷ [])
+variance_words top n = variance_said top n
 
 -- third U/E
 unfoldable pub third_words : ℤ → ℕ → List ℕ
-third_words top n = joined (codes "third " ∷ signed_decimal top ∷ codes "/" ∷ decimal (n * (n * n)) ∷ codes "\n" ∷ [])
+third_words top n = third_said top n
 
 -- the number of fields
 unfoldable pub fields_said : ℕ → List ℕ
@@ -58,7 +58,7 @@ end_words = codes "end\n"
 
 -- extrema LEAST GREATEST
 unfoldable pub extrema_words : ℤ → ℤ → List ℕ
-extrema_words least greatest = joined (codes "extrema " ∷ signed_decimal least ∷ codes " " ∷ signed_decimal greatest ∷ codes "\n" ∷ [])
+extrema_words least greatest = extrema_said least greatest
 
 -- the first word of an exceed line, and a number of it
 unfoldable pub exceed_start : List ℕ
@@ -81,10 +81,6 @@ total_of parts = option_map (λ r. pos 1000000 -ℤ r) (rho6 parts.cov_a parts.v
 -- the line of a parameter with this name
 abbrev pub parameter_words : List ℕ → IndexParts → List ℕ
 parameter_words name parts = sobol_words name (index_words (first_of parts)) (index_words (total_of parts)) parts.cov_b parts.cov_a parts.var_a parts.var_b parts.var_c
-
--- what is said of a cell's statistics, from its rows
-abbrev pub statistics_text : Study → List (List ℤ) → List ℕ
-statistics_text study rs = power_lines study rs ++ (extrema_lines study rs ++ (exceed_lines study rs ++ index_lines study rs))
 
 -- the covariances and variances that sums of rows give: their squares and products are so, and they are small
 pub record AreParts (parts : IndexParts) : Type 0 where

@@ -1,21 +1,16 @@
 //! What is said of a cell, from the sums that a rank keeps of it.
 
-ghost use Rattle.std.specs.Prelude.{◌≡◌, ℕ, ◌<◌, ◌≤◌, ◌++◌, ◌&&◌, List, [], length, map, nat_lt};
+ghost use Rattle.std.specs.Prelude.{◌≡◌, ◌<◌, ◌≤◌, ◌-◌, ◌++◌, ◌&&◌, [], cond, length, nat_lt};
 ghost use Rattle.mls_model.specs.Studies.{planes, plane_of, shows};
 ghost use Rattle.mls_model.specs.Blocks.{block, width};
-ghost use Rattle.mls_model.specs.Samples.{unshifted};
-ghost use Rattle.mls_model.specs.Standing.{Table};
-ghost use Rattle.mls_model.specs.Statistics.{outputs, variance_top, third_top};
-ghost use Rattle.mls_model.specs.ResultText.{power_line, variance_line, third_line, power_lines, extrema_lines, exceed_lines, index_lines, cell_text};
-ghost use Rattle.mls_model.specs.AcceptedRows.{rows};
-ghost use Rattle.mls_model.specs.Histories.{Event};
+ghost use Rattle.mls_model.specs.ResultText.{power_line, variance_line, third_line, exceed_words};
+ghost use Rattle.mls_model.specs.SumsText.{variance_of, third_of, sums_powers, sums_extrema, sums_indices, sums_statistics, sums_text};
 ghost use Rattle.mls_rank.specs.Cores.{sizes_of, rank_of as core_rank};
-ghost use Rattle.mls_rank.specs.Standing.{StandsFor as Stands};
-ghost use Rattle.mls_result.specs.Histories.{pieces_of};
-ghost use Rattle.mls_result.specs.Words.{statistics_text};
-ghost use Rattle.mls_field.specs.Stands.{shape_of, rank_of, StandsFor};
+ghost use Rattle.mls_result.specs.Histories.{core_sums};
+ghost use Rattle.mls_field.specs.Stands.{shape_of, rank_of};
+ghost use Rattle.mls_field.specs.Kept.{sums_at};
 ghost use Rattle.mls_text.specs.Writing.{Writes};
-ghost use Rattle.mls_model.specs.declared.studies.Statistic.TheVariants.{Exceed};
+ghost use Rattle.mls_model.specs.declared.studies.Statistic.TheVariants.{Power, Extrema, Exceed, Sobol};
 
 use crate::exceed::put_exceed_line;
 use crate::extrema::put_extrema_line;
@@ -41,8 +36,8 @@ fn put_no_powers<O: Sink>(out: &mut O) -> Result<(), Failed>
 fn moments_of(field: &Field, step: u32, cell: u32) -> Moments
     requires step_in { step < planes (shape_of field.now) }
     requires cell_in { cell < width (block (shape_of field.now) (rank_of field.now)) }
-    ensures variance { (t : Table) → StandsFor field.now t → result.variance ≡ variance_top (outputs (map (map (unshifted (shape_of field.now).signed)) (t step cell))) }
-    ensures third { (t : Table) → StandsFor field.now t → result.third ≡ third_top (outputs (map (map (unshifted (shape_of field.now).signed)) (t step cell))) }
+    ensures variance { result.variance ≡ variance_of (sums_at field.now step cell) }
+    ensures third { result.third ≡ third_of (sums_at field.now step cell) }
 {
     Moments {
         variance: field.variance_top(step, cell),
@@ -59,7 +54,7 @@ pub fn put_power_lines<O: Sink>(
 ) -> Result<(), Failed>
     requires step_in { step < planes (shape_of field.now) }
     requires cell_in { cell < width (block (shape_of field.now) (rank_of field.now)) }
-    ensures { (t : Table) → StandsFor field.now t → let ws = outputs (map (map (unshifted (shape_of field.now).signed)) (t step cell)) in Writes result (power_line ws ++ (variance_line ws ++ third_line ws)) (O.told out.old) (O.told out.new) (O.faults out.old) (O.faults out.new) }
+    ensures { Writes result (sums_powers (shape_of field.now).signed (sums_at field.now step cell)) (O.told out.old) (O.told out.new) (O.faults out.old) (O.faults out.new) }
 {
     let rows = field.rows(step);
     if rows == 0 {
@@ -83,7 +78,7 @@ fn put_power<O: Sink>(
     requires sizes { shape_of field.now ≡ study.now.sizes }
     requires step_in { step < planes (shape_of field.now) }
     requires cell_in { cell < width (block (shape_of field.now) (rank_of field.now)) }
-    ensures { (t : Table) → StandsFor field.now t → Writes result (power_lines study.now (map (map (unshifted (shape_of field.now).signed)) (t step cell))) (O.told out.old) (O.told out.new) (O.faults out.old) (O.faults out.new) }
+    ensures { Writes result (cond (shows study.now Power) (sums_powers study.now.sizes.signed (sums_at field.now step cell)) []) (O.told out.old) (O.told out.new) (O.faults out.old) (O.faults out.new) }
 {
     if study.shows(Statistic::Power) {
         return put_power_lines(out, field, step, cell);
@@ -102,7 +97,7 @@ fn put_extrema<O: Sink>(
     requires sizes { shape_of field.now ≡ study.now.sizes }
     requires step_in { step < planes (shape_of field.now) }
     requires cell_in { cell < width (block (shape_of field.now) (rank_of field.now)) }
-    ensures { (t : Table) → StandsFor field.now t → Writes result (extrema_lines study.now (map (map (unshifted (shape_of field.now).signed)) (t step cell))) (O.told out.old) (O.told out.new) (O.faults out.old) (O.faults out.new) }
+    ensures { Writes result (cond (shows study.now Extrema) (sums_extrema study.now.sizes.signed (sums_at field.now step cell)) []) (O.told out.old) (O.told out.new) (O.faults out.old) (O.faults out.new) }
 {
     if study.shows(Statistic::Extrema) {
         return put_extrema_line(out, &study.shape(), field, step, cell);
@@ -128,7 +123,7 @@ fn put_exceed<O: Sink>(
     requires sizes { shape_of field.now ≡ study.now.sizes }
     requires step_in { step < planes (shape_of field.now) }
     requires cell_in { cell < width (block (shape_of field.now) (rank_of field.now)) }
-    ensures { (t : Table) → StandsFor field.now t → Writes result (exceed_lines study.now (map (map (unshifted (shape_of field.now).signed)) (t step cell))) (O.told out.old) (O.told out.new) (O.faults out.old) (O.faults out.new) }
+    ensures { Writes result (cond (shows study.now Exceed && nat_lt 0 (length study.now.sizes.thresholds)) (exceed_words (sums_at field.now step cell).above) []) (O.told out.old) (O.told out.new) (O.faults out.old) (O.faults out.new) }
 {
     if has_exceed_line(study) {
         let thresholds = study.shape().thresholds();
@@ -148,7 +143,7 @@ fn put_indices<O: Sink>(
     requires sizes { shape_of field.now ≡ study.now.sizes }
     requires step_in { step < planes (shape_of field.now) }
     requires cell_in { cell < width (block (shape_of field.now) (rank_of field.now)) }
-    ensures { (t : Table) → StandsFor field.now t → Writes result (index_lines study.now (map (map (unshifted (shape_of field.now).signed)) (t step cell))) (O.told out.old) (O.told out.new) (O.faults out.old) (O.faults out.new) }
+    ensures { Writes result (cond (shows study.now Sobol) (sums_indices study.now (sums_at field.now step cell)) []) (O.told out.old) (O.told out.new) (O.faults out.old) (O.faults out.new) }
 {
     if study.shows(Statistic::Sobol) {
         let parameters = study.shape().parameters();
@@ -168,7 +163,7 @@ fn put_statistics<O: Sink>(
     requires sizes { shape_of field.now ≡ study.now.sizes }
     requires step_in { step < planes (shape_of field.now) }
     requires cell_in { cell < width (block (shape_of field.now) (rank_of field.now)) }
-    ensures { (t : Table) → StandsFor field.now t → Writes result (statistics_text study.now (map (map (unshifted (shape_of field.now).signed)) (t step cell))) (O.told out.old) (O.told out.new) (O.faults out.old) (O.faults out.new) }
+    ensures { Writes result (sums_statistics study.now (sums_at field.now step cell)) (O.told out.old) (O.told out.new) (O.faults out.old) (O.faults out.new) }
 {
     put_power(out, study, field, step, cell)?;
     put_extrema(out, study, field, step, cell)?;
@@ -190,7 +185,7 @@ pub fn put_cell<O: Sink>(
     requires field_in { field < study.now.sizes.fields }
     requires first { (block study.now.sizes (core_rank core.now)).first ≤ cell }
     requires end { cell < (block study.now.sizes (core_rank core.now)).end }
-    ensures { (history : List Event) → Stands core.now history → Writes result (cell_text study.now step field cell (rows study.now.sizes (core_rank core.now) (plane_of study.now.sizes step field) cell (pieces_of study.now.sizes (core_rank core.now) history))) (O.told out.old) (O.told out.new) (O.faults out.old) (O.faults out.new) }
+    ensures { Writes result (sums_text study.now step field cell (core_sums core.now (plane_of study.now.sizes step field) cell)) (O.told out.old) (O.told out.new) (O.faults out.old) (O.faults out.new) }
 {
     let shape = core.shape();
     let plane = shape.plane(step, field);

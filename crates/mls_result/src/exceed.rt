@@ -1,10 +1,8 @@
 //! The exceed line of a cell.
 
-ghost use Rattle.std.specs.Prelude.{◌≡◌, ℕ, ◌≤◌, Bool, List, length, map};
-ghost use Rattle.std.specs.List.{flat_map};
-ghost use Rattle.mls_model.specs.Samples.{unshifted};
-ghost use Rattle.mls_model.specs.ResultText.{exceed_line};
-ghost use Rattle.mls_power.specs.ExceedStanding.{ExceedStandsFor};
+ghost use Rattle.std.specs.Prelude.{◌≡◌, ℕ, List, length, slice_index};
+ghost use Rattle.mls_model.specs.ResultText.{exceed_words};
+ghost use Rattle.mls_power.specs.ExceedStanding.{numbers_of};
 ghost use Rattle.mls_result.specs.Words.{exceed_start, number_words};
 ghost use Rattle.mls_result.specs.Counted.{numbers_text};
 ghost use Rattle.mls_text.specs.Writing.{Writes};
@@ -35,7 +33,7 @@ fn put_number<O: Sink>(out: &mut O, n: u32) -> Result<(), Failed>
 
 /// Writes the numbers above so many thresholds.
 fn put_numbers<O: Sink>(out: &mut O, exceed: &Exceed, thresholds: u32) -> Result<(), Failed>
-    ensures { (signed : Bool) (values samples : List ℕ) → ExceedStandsFor values exceed.now samples → length values ≡ thresholds → Writes result (numbers_text (map (unshifted signed) samples) (map (unshifted signed) values)) (O.told out.old) (O.told out.new) (O.faults out.old) (O.faults out.new) }
+    ensures { (numbers : List ℕ) → length numbers ≡ thresholds → ((i : ℕ) → slice_index (numbers_of exceed.now) i ≡ slice_index numbers i) → Writes result (numbers_text numbers) (O.told out.old) (O.told out.new) (O.faults out.old) (O.faults out.new) }
 {
     for i in 0..thresholds {
         put_number(out, exceed.above(i))?;
@@ -45,7 +43,7 @@ fn put_numbers<O: Sink>(out: &mut O, exceed: &Exceed, thresholds: u32) -> Result
 
 /// Writes how many values are above each of so many thresholds.
 pub fn put_exceed_line<O: Sink>(out: &mut O, exceed: &Exceed, thresholds: u32) -> Result<(), Failed>
-    ensures { (signed : Bool) (values samples : List ℕ) → ExceedStandsFor values exceed.now samples → length values ≡ thresholds → Writes result (exceed_line (map (unshifted signed) values) (map (unshifted signed) samples)) (O.told out.old) (O.told out.new) (O.faults out.old) (O.faults out.new) }
+    ensures { (numbers : List ℕ) → length numbers ≡ thresholds → ((i : ℕ) → slice_index (numbers_of exceed.now) i ≡ slice_index numbers i) → Writes result (exceed_words numbers) (O.told out.old) (O.told out.new) (O.faults out.old) (O.faults out.new) }
 {
     put_exceed_start(out)?;
     put_numbers(out, exceed, thresholds)?;

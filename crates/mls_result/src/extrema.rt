@@ -1,13 +1,13 @@
 //! The extrema line of a cell.
 
-ghost use Rattle.std.specs.Prelude.{◌≡◌, ◌<◌, [], map};
+ghost use Rattle.std.specs.Prelude.{◌≡◌, ◌<◌, []};
 ghost use Rattle.mls_model.specs.Studies.{planes};
 ghost use Rattle.mls_model.specs.Blocks.{block, width};
 ghost use Rattle.mls_model.specs.Samples.{unshifted};
-ghost use Rattle.mls_model.specs.Standing.{Table};
-ghost use Rattle.mls_model.specs.Statistics.{outputs};
 ghost use Rattle.mls_model.specs.ResultText.{extrema_line};
-ghost use Rattle.mls_field.specs.Stands.{shape_of, rank_of, StandsFor};
+ghost use Rattle.mls_model.specs.SumsText.{sums_extrema};
+ghost use Rattle.mls_field.specs.Stands.{shape_of, rank_of};
+ghost use Rattle.mls_field.specs.Kept.{sums_at};
 ghost use Rattle.mls_result.specs.Words.{extrema_words};
 ghost use Rattle.mls_text.specs.Writing.{Writes};
 
@@ -67,7 +67,7 @@ pub fn put_extrema_line<O: Sink>(
     requires shape { shape_of field.now ≡ shape.now }
     requires step_in { step < planes (shape_of field.now) }
     requires cell_in { cell < width (block (shape_of field.now) (rank_of field.now)) }
-    ensures { (t : Table) → StandsFor field.now t → Writes result (extrema_line (outputs (map (map (unshifted (shape_of field.now).signed)) (t step cell)))) (O.told out.old) (O.told out.new) (O.faults out.old) (O.faults out.new) }
+    ensures { Writes result (sums_extrema (shape_of field.now).signed (sums_at field.now step cell)) (O.told out.old) (O.told out.new) (O.faults out.old) (O.faults out.new) }
 {
     let rows = field.rows(step);
     if rows == 0 {

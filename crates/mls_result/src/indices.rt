@@ -1,10 +1,12 @@
 //! The Sobol lines of a cell.
 
-ghost use Rattle.std.specs.Prelude.{◌≡◌, ℕ, ◌≤◌, Bool, List, map, ℤ, pos, negsuc, ◌-ℤ◌, ◌≤ℤ◌, IfSome};
+ghost use Rattle.std.specs.Prelude.{◌≡◌, ◌≤◌, ℤ, pos, negsuc, ◌-ℤ◌, ◌≤ℤ◌, IfSome};
 ghost use Rattle.std.specs.Option.{option_map};
-ghost use Rattle.mls_model.specs.Samples.{unshifted};
-ghost use Rattle.mls_model.specs.ResultText.{index_words, sobol_lines};
-ghost use Rattle.mls_cov.specs.Standing.{parameters_of, StandsFor};
+ghost use Rattle.mls_model.specs.CellSums.{CellSums};
+ghost use Rattle.mls_model.specs.ResultText.{index_words};
+ghost use Rattle.mls_model.specs.SumsText.{sums_indices};
+ghost use Rattle.mls_cov.specs.Standing.{parameters_of};
+ghost use Rattle.mls_field.specs.Kept.{HasProducts};
 ghost use Rattle.mls_result.specs.Words.{sobol_words, parameter_words, first_of, total_of, AreParts};
 ghost use Rattle.mls_text.specs.Writing.{Writes};
 
@@ -121,7 +123,7 @@ fn put_parameter<O: Sink>(out: &mut O, name: &str, parts: &IndexParts) -> Result
 }
 
 /// Writes the Sobol line of each parameter of a study.
-#[tactic(auto, unfolding(mls_model::specs::ResultText::sobol_lines))]
+#[tactic(auto, unfolding(mls_model::specs::SumsText::sums_indices))]
 pub fn put_sobol_lines<O: Sink>(
     out: &mut O,
     study: &Study,
@@ -130,7 +132,7 @@ pub fn put_sobol_lines<O: Sink>(
 ) -> Result<(), Failed>
     requires own { parameters ≡ study.now.sizes.parameters }
     requires same { parameters_of sums.now ≡ study.now.sizes.parameters }
-    ensures { (signed : Bool) (rows : List (List ℕ)) → StandsFor sums.now rows → Writes result (sobol_lines study.now (map (map (unshifted signed)) rows)) (O.told out.old) (O.told out.new) (O.faults out.old) (O.faults out.new) }
+    ensures { (c : CellSums) → HasProducts study.now.sizes.parameters c sums.now → Writes result (sums_indices study.now c) (O.told out.old) (O.told out.new) (O.faults out.old) (O.faults out.new) }
 {
     study.valid();
     for k in 0..parameters {

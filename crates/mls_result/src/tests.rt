@@ -190,6 +190,20 @@ fn texts_of_one_rank(rt: HostRuntime) {
     );
 }
 
+#[test]
+fn text_of_one_group(rt: HostRuntime) {
+    let one = [piece(0, 0, 0, [7, 9, 9]), NOTHING, NOTHING];
+    assert!(rt;
+        is_text(
+            rt.alloc(),
+            ALL,
+            &one,
+            &[lane(0, 0, 1)],
+            "melissa-result 1\nstudy cells 1 steps 1 groups 2 parameters 1 ranks 1 clients 1\nrank 0 accepted 1 kept 0 replay 0 stale 0 repeated 0 foreign 0 0 0 0 0 0\nlane 0 rank 0 client events 1 clean\nstep 0 cell 0 groups 1\npower 16 130 1072 8962\nvariance 4/2\nthird 0/8\nextrema 7 9\nexceed 2 2\nsobol x - - 0 0 0 0 0\nend\n"
+        )
+    );
+}
+
 // 65535 is the sample of the value −1.
 #[test]
 fn texts_of_signed_samples_and_of_two_fields(rt: HostRuntime) {

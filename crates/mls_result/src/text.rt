@@ -5,7 +5,7 @@ ghost use Rattle.mls_model.specs.Histories.{Event};
 ghost use Rattle.mls_model.specs.ResultText.{field_text, step_text, cells_text};
 ghost use Rattle.mls_model.specs.Blocks.{block, rank_of};
 ghost use Rattle.mls_text.specs.Writing.{Writes};
-ghost use Rattle.mls_result.specs.Histories.{history_rows, history_text, AreCores, AllStand};
+ghost use Rattle.mls_result.specs.Histories.{history_text, kept_said, states_text, AreCores, AllStand};
 ghost use Rattle.mls_result.specs.Words.{end_words};
 
 use crate::cells::put_cell;
@@ -48,7 +48,7 @@ fn put_cells<O: Sink>(
     requires step_in { step < study.now.sizes.steps }
     requires field_in { field < study.now.sizes.fields }
     requires cells { cells ≡ study.now.sizes.cells }
-    ensures { (histories : ℕ → List Event) → AllStand cores.now histories → Writes result (field_text study.now step field (history_rows study.now.sizes histories)) (O.told out.old) (O.told out.new) (O.faults out.old) (O.faults out.new) }
+    ensures { Writes result (field_text study.now (kept_said study.now cores.now step field)) (O.told out.old) (O.told out.new) (O.faults out.old) (O.faults out.new) }
 {
     let shape = study.shape();
     for cell in 0..cells {
@@ -70,7 +70,7 @@ fn put_fields<O: Sink>(
     requires cores { AreCores study.now.sizes cores.now }
     requires step_in { step < study.now.sizes.steps }
     requires fields { fields ≡ study.now.sizes.fields }
-    ensures { (histories : ℕ → List Event) → AllStand cores.now histories → Writes result (step_text study.now step (history_rows study.now.sizes histories)) (O.told out.old) (O.told out.new) (O.faults out.old) (O.faults out.new) }
+    ensures { Writes result (step_text study.now (kept_said study.now cores.now step)) (O.told out.old) (O.told out.new) (O.faults out.old) (O.faults out.new) }
 {
     let cells = study.shape().cells();
     for field in 0..fields {
@@ -89,7 +89,7 @@ fn put_steps<O: Sink>(
 ) -> Result<(), Failed>
     requires cores { AreCores study.now.sizes cores.now }
     requires steps { steps ≡ study.now.sizes.steps }
-    ensures { (histories : ℕ → List Event) → AllStand cores.now histories → Writes result (cells_text study.now (history_rows study.now.sizes histories)) (O.told out.old) (O.told out.new) (O.faults out.old) (O.faults out.new) }
+    ensures { Writes result (cells_text study.now (kept_said study.now cores.now)) (O.told out.old) (O.told out.new) (O.faults out.old) (O.faults out.new) }
 {
     let fields = study.shape().fields();
     for step in 0..steps {
@@ -106,6 +106,23 @@ fn put_end<O: Sink>(out: &mut O) -> Result<(), Failed>
     put_bytes(out, b"end\n")
 }
 
+/// Writes the result text of what the cores keep.
+fn put_result<O: Sink>(
+    out: &mut O,
+    study: &Study,
+    cores: &[RankCore<Field>],
+    lanes: &[LaneLine],
+) -> Result<(), Failed>
+    requires cores { AreCores study.now.sizes cores.now }
+    ensures { Writes result (states_text study.now cores.now lanes.now) (O.told out.old) (O.told out.new) (O.faults out.old) (O.faults out.new) }
+{
+    put_head(out, study)?;
+    put_ranks(out, cores)?;
+    put_lanes(out, lanes)?;
+    put_steps(out, study, cores, study.shape().steps())?;
+    put_end(out)
+}
+
 /// Writes the result text of a study, from the ranks' cores, one for each rank in order, and the lines of its lanes.
 /// It takes no memory. After `Failed` a front of the text went out.
 pub fn write_result<O: Sink>(
@@ -115,11 +132,9 @@ pub fn write_result<O: Sink>(
     out: &mut O,
 ) -> Result<(), Failed>
     requires cores { AreCores study.now.sizes cores.now }
-    ensures { (histories : ℕ → List Event) → AllStand cores.now histories → Writes result (history_text study.now histories lanes.now) (O.told out.old) (O.told out.new) (O.faults out.old) (O.faults out.new) }
+    ensures states { Writes result (states_text study.now cores.now lanes.now) (O.told out.old) (O.told out.new) (O.faults out.old) (O.faults out.new) }
+    ensures histories { (histories : ℕ → List Event) → AllStand cores.now histories → Writes result (history_text study.now histories lanes.now) (O.told out.old) (O.told out.new) (O.faults out.old) (O.faults out.new) }
 {
-    put_head(out, study)?;
-    put_ranks(out, cores)?;
-    put_lanes(out, lanes)?;
-    put_steps(out, study, cores, study.shape().steps())?;
-    put_end(out)
+    study.valid();
+    put_result(out, study, cores, lanes)
 }

@@ -1,7 +1,6 @@
-use Rattle.std.proofs.Common.{◌≡◌, ◌<◌, ◌≤◌, sym, ap, ◌∙◌, subst, arith, List, ℕ}
+use Rattle.std.proofs.Common.{sym, ap, ◌∙◌, subst, arith, List}
 use Rattle.mls_model.specs.Histories.{Event}
 use Rattle.mls_model.specs.Studies.{Sizes}
-use Rattle.mls_rank.specs.Cores.{sizes_of}
 use Rattle.mls_rank.specs.Standing.{StandsFor}
 use Rattle.mls_tape.proofs.Complete.{legal_order, legal_count}
 use Rattle.mls_replay.specs.Folding.{histories_of}

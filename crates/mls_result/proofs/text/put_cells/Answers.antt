@@ -2,18 +2,15 @@ use Rattle.std.proofs.Common.{arith, ◌≡◌, ◌<◌, ◌≤◌, ◌∙◌, a
 use Rattle.std.specs.List.{flat_map}
 use Rattle.mls_base.specs.Told.{appended, WroteFront}
 use Rattle.mls_model.specs.Numbers.{below}
-use Rattle.mls_model.specs.ResultText.{cell_text, field_text}
-use Rattle.mls_model.specs.Studies.{plane_of}
-use Rattle.mls_rank.specs.Cores.{rank_of as core_rank}
-use Rattle.mls_text.proofs.Writing.{rose_since, failed_writes}
-use Rattle.mls_result.proofs.Loops.{number_more, number_failed, number_all}
-use Rattle.mls_result.proofs.Texts.{text_of_cell, rows_are}
-use Rattle.mls_model.specs.Studies.{Sizes}
+use Rattle.mls_model.specs.Studies.{Sizes, plane_of}
 use Rattle.mls_model.specs.Blocks.{block, rank_of}
-use Rattle.mls_model.specs.AcceptedRows.{rows}
-use Rattle.mls_rank.specs.Cores.{sizes_of}
-use Rattle.mls_rank.specs.Standing.{StandsFor}
-use Rattle.mls_result.specs.Histories.{pieces_of}
+use Rattle.mls_model.specs.SumsText.{sums_text}
+use Rattle.mls_model.specs.ResultText.{field_text}
+use Rattle.mls_rank.specs.Cores.{sizes_of, rank_of as core_rank}
+use Rattle.mls_text.proofs.Writing.{rose_since, failed_writes}
+use Rattle.mls_result.specs.Histories.{core_sums, kept_said}
+use Rattle.mls_text.proofs.Counted.{number_more, number_failed, number_all}
+use Rattle.mls_result.proofs.States.{kept_at}
 use Rattle.mls_result.proofs.text.put_cells.Goals as goal
 
 pub put_cell-requires-clause-sizes : goal.put_cell-requires-clause-sizes
@@ -37,40 +34,36 @@ put_cell-requires-clause-end g c =
 
 pub returns-in_err-put_cell : goal.returns-in_err-put_cell
 unfolding field_text
-returns-in_err-put_cell g c = λ histories stands.
+returns-in_err-put_cell g c =
     let study = c.args.study.now in
-    let here : c.loop-cell.cell < study.sizes.cells = omega (arith, c.requires.cells, c.loop-cell-test.true) in
     let rank = c.rank_of_cell-rank.result in
     let core = c.index-cores-rank.result in
     let in_ranks : rank < length c.args.cores.now = omega (arith, c.requires.cores.count, c.rank_of_cell-rank.ensures.rank_in, ap (λ (z : Sizes). z.ranks) c.shape-shape.ensures) in
-    let there : StandsFor core (histories rank) = subst (λ x. StandsFor x (histories rank)) (sym c.index-cores-rank.is) (stands.each rank core in_ranks) in
-    let own : core_rank core ≡ rank = ap core_rank c.index-cores-rank.is ∙ c.requires.cores.ranks rank core in_ranks in
     let found : rank_of study.sizes c.loop-cell.cell ≡ Some rank = ap (λ z. rank_of z c.loop-cell.cell) (sym c.shape-shape.ensures) ∙ c.rank_of_cell-rank.ensures.value in
     let plane = plane_of study.sizes c.args.step c.args.field in
-    let same = ap (λ r. cell_text study c.args.step c.args.field c.loop-cell.cell (rows study.sizes r plane c.loop-cell.cell (pieces_of study.sizes r (histories rank)))) own ∙ ap (cell_text study c.args.step c.args.field c.loop-cell.cell) (rows_are study.sizes histories rank plane c.loop-cell.cell found) in
-    let kept = c.loop-cell.invariant histories stands in
-    let failed = number_failed (text_of_cell study c.args.step c.args.field histories) c.loop-cell.cell c.args.cells _ _ _ _ _ _ c.loop-cell-test.true kept (subst (λ t. WroteFront (g.O.Sink.told c.loop-cell.out) (g.O.Sink.told c.put_cell.new.out) t) same (c.in_err-put_cell.ensures (histories rank) there).0) in
-    let whole = subst (λ n. WroteFront (g.O.Sink.told c.args.out.now) (g.O.Sink.told c.put_cell.new.out) (flat_map (text_of_cell study c.args.step c.args.field histories) (below n))) c.requires.cells failed in
-    failed_writes _ _ _ _ _ _ _ c.from_residual.ensures.1 whole (rose_since _ _ _ kept.faultless (c.in_err-put_cell.ensures (histories rank) there).1)
+    let same = ap (sums_text study c.args.step c.args.field c.loop-cell.cell) (ap (λ d. core_sums d plane c.loop-cell.cell) c.index-cores-rank.is ∙ sym (kept_at study.sizes c.args.cores.now rank plane c.loop-cell.cell core found in_ranks)) in
+    let said = kept_said study c.args.cores.now c.args.step c.args.field in
+    let kept = c.loop-cell.invariant in
+    let failed = number_failed said c.loop-cell.cell c.args.cells _ _ _ _ _ _ c.loop-cell-test.true kept (subst (λ t. WroteFront (g.O.Sink.told c.loop-cell.out) (g.O.Sink.told c.put_cell.new.out) t) same c.in_err-put_cell.ensures.0) in
+    let whole = subst (λ n. WroteFront (g.O.Sink.told c.args.out.now) (g.O.Sink.told c.put_cell.new.out) (flat_map said (below n))) c.requires.cells failed in
+    failed_writes _ _ _ _ _ _ _ c.from_residual.ensures.1 whole (rose_since _ _ _ kept.faultless c.in_err-put_cell.ensures.1)
 
 pub loop-cell-preserved : goal.loop-cell-preserved
-loop-cell-preserved g c = λ histories stands.
+loop-cell-preserved g c =
     let study = c.args.study.now in
-    let here : c.loop-cell.cell < study.sizes.cells = omega (arith, c.requires.cells, c.loop-cell-test.true) in
     let rank = c.rank_of_cell-rank.result in
     let core = c.index-cores-rank.result in
     let in_ranks : rank < length c.args.cores.now = omega (arith, c.requires.cores.count, c.rank_of_cell-rank.ensures.rank_in, ap (λ (z : Sizes). z.ranks) c.shape-shape.ensures) in
-    let there : StandsFor core (histories rank) = subst (λ x. StandsFor x (histories rank)) (sym c.index-cores-rank.is) (stands.each rank core in_ranks) in
-    let own : core_rank core ≡ rank = ap core_rank c.index-cores-rank.is ∙ c.requires.cores.ranks rank core in_ranks in
     let found : rank_of study.sizes c.loop-cell.cell ≡ Some rank = ap (λ z. rank_of z c.loop-cell.cell) (sym c.shape-shape.ensures) ∙ c.rank_of_cell-rank.ensures.value in
     let plane = plane_of study.sizes c.args.step c.args.field in
-    let same = ap (λ r. cell_text study c.args.step c.args.field c.loop-cell.cell (rows study.sizes r plane c.loop-cell.cell (pieces_of study.sizes r (histories rank)))) own ∙ ap (cell_text study c.args.step c.args.field c.loop-cell.cell) (rows_are study.sizes histories rank plane c.loop-cell.cell found) in
-    number_more (text_of_cell study c.args.step c.args.field histories) c.loop-cell.cell c.args.cells _ _ _ _ _ _ _ c.loop-cell-test.true (c.loop-cell.invariant histories stands) ((c.in_ok-put_cell.ensures (histories rank) there).0 ∙ ap (appended (g.O.Sink.told c.loop-cell.out)) same) (c.in_ok-put_cell.ensures (histories rank) there).1
+    let same = ap (sums_text study c.args.step c.args.field c.loop-cell.cell) (ap (λ d. core_sums d plane c.loop-cell.cell) c.index-cores-rank.is ∙ sym (kept_at study.sizes c.args.cores.now rank plane c.loop-cell.cell core found in_ranks)) in
+    let said = kept_said study c.args.cores.now c.args.step c.args.field in
+    number_more said c.loop-cell.cell c.args.cells _ _ _ _ _ _ _ c.loop-cell-test.true c.loop-cell.invariant (c.in_ok-put_cell.ensures.0 ∙ ap (appended (g.O.Sink.told c.loop-cell.out)) same) c.in_ok-put_cell.ensures.1
 
 pub returns : goal.returns
 unfolding field_text
-returns g c = λ histories stands.
-    let study = c.args.study.now in
-    let kept = c.loop-cell.invariant histories stands in
-    let told = number_all (text_of_cell study c.args.step c.args.field histories) c.loop-cell.cell c.args.cells _ _ _ _ _ c.loop-cell-test.false kept in
-    (subst (λ n. (g.O.Sink.told c.loop-cell.out) ≡ appended (g.O.Sink.told c.args.out.now) (flat_map (text_of_cell study c.args.step c.args.field histories) (below n))) c.requires.cells told, kept.faultless)
+returns g c =
+    let said = kept_said c.args.study.now c.args.cores.now c.args.step c.args.field in
+    let kept = c.loop-cell.invariant in
+    let told = number_all said c.loop-cell.cell c.args.cells _ _ _ _ _ c.loop-cell-test.false kept in
+    (subst (λ n. (g.O.Sink.told c.loop-cell.out) ≡ appended (g.O.Sink.told c.args.out.now) (flat_map said (below n))) c.requires.cells told, kept.faultless)

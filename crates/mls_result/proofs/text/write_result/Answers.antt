@@ -1,41 +1,29 @@
-use Rattle.std.proofs.Common.{map, sym, subst, List, ℕ}
-use Rattle.mls_rank.specs.Cores.{counts_of}
+use Rattle.std.proofs.Common.{◌∙◌, subst, List, ℕ, get_or}
+use Rattle.mls_model.specs.Standing.{rank_table}
+use Rattle.mls_field.specs.Stands.{StandsFor}
+use Rattle.mls_rank.specs.Cores.{rank_of as core_rank, fold_of}
+use Rattle.mls_rank.proofs.Folds.{fold_sizes, fold_rank}
 use Rattle.mls_text.specs.Writing.{Writes}
-use Rattle.mls_text.proofs.Writing.{first_failed, later_failed, rose_since, failed_writes, writes_after}
-use Rattle.mls_result.proofs.Whole.{counts_are, text-split}
+use Rattle.mls_result.specs.Histories.{pieces_of}
+use Rattle.mls_result.proofs.States.{FoldsStand, states_are}
+use Rattle.mls_result.proofs.Whole.{counts_are}
 use Rattle.mls_result.proofs.text.write_result.Goals as goal
 
-pub returns-in_err-put_head : goal.returns-in_err-put_head
-returns-in_err-put_head g c = λ histories stand.
+pub returns-clause-histories : goal.returns-clause-histories
+returns-clause-histories g c = λ histories stand.
     let study = c.args.study.now in
-    let text = text-split study histories c.args.lanes.now (map counts_of c.args.cores.now) (counts_are study.sizes c.args.cores.now histories c.requires.cores stand) in
-    let P : List ℕ → Type 0 = λ t. Writes c.from_residual.result t (g.O.Sink.told c.args.out.now) (g.O.Sink.told c.put_head.new.out) (g.O.Sink.faults c.args.out.now) (g.O.Sink.faults c.put_head.new.out) in
-    subst P (sym text) (failed_writes _ _ _ _ _ _ _ c.from_residual.ensures.1 (first_failed _ _ _ _ c.in_err-put_head.ensures.0) c.in_err-put_head.ensures.1)
-
-pub returns-in_err-put_ranks : goal.returns-in_err-put_ranks
-returns-in_err-put_ranks g c = λ histories stand.
-    let study = c.args.study.now in
-    let text = text-split study histories c.args.lanes.now (map counts_of c.args.cores.now) (counts_are study.sizes c.args.cores.now histories c.requires.cores stand) in
-    let P : List ℕ → Type 0 = λ t. Writes c.from_residual-in_err-put_ranks.result t (g.O.Sink.told c.args.out.now) (g.O.Sink.told c.put_ranks.new.out) (g.O.Sink.faults c.args.out.now) (g.O.Sink.faults c.put_ranks.new.out) in
-    subst P (sym text) (failed_writes _ _ _ _ _ _ _ c.from_residual-in_err-put_ranks.ensures.1 (later_failed _ _ _ _ _ c.in_ok-put_head.ensures.0 (first_failed _ _ _ _ c.in_err-put_ranks.ensures.0)) (rose_since _ _ _ c.in_ok-put_head.ensures.1 c.in_err-put_ranks.ensures.1))
-
-pub returns-in_err-put_lanes : goal.returns-in_err-put_lanes
-returns-in_err-put_lanes g c = λ histories stand.
-    let study = c.args.study.now in
-    let text = text-split study histories c.args.lanes.now (map counts_of c.args.cores.now) (counts_are study.sizes c.args.cores.now histories c.requires.cores stand) in
-    let P : List ℕ → Type 0 = λ t. Writes c.from_residual-in_err-put_lanes.result t (g.O.Sink.told c.args.out.now) (g.O.Sink.told c.put_lanes.new.out) (g.O.Sink.faults c.args.out.now) (g.O.Sink.faults c.put_lanes.new.out) in
-    subst P (sym text) (failed_writes _ _ _ _ _ _ _ c.from_residual-in_err-put_lanes.ensures.1 (later_failed _ _ _ _ _ c.in_ok-put_head.ensures.0 (later_failed _ _ _ _ _ c.in_ok-put_ranks.ensures.0 (first_failed _ _ _ _ c.in_err-put_lanes.ensures.0))) (rose_since _ _ _ c.in_ok-put_head.ensures.1 (rose_since _ _ _ c.in_ok-put_ranks.ensures.1 c.in_err-put_lanes.ensures.1)))
-
-pub returns-in_err-put_steps : goal.returns-in_err-put_steps
-returns-in_err-put_steps g c = λ histories stand.
-    let study = c.args.study.now in
-    let text = text-split study histories c.args.lanes.now (map counts_of c.args.cores.now) (counts_are study.sizes c.args.cores.now histories c.requires.cores stand) in
-    let P : List ℕ → Type 0 = λ t. Writes c.from_residual-in_err-put_steps.result t (g.O.Sink.told c.args.out.now) (g.O.Sink.told c.put_steps.new.out) (g.O.Sink.faults c.args.out.now) (g.O.Sink.faults c.put_steps.new.out) in
-    subst P (sym text) (failed_writes _ _ _ _ _ _ _ c.from_residual-in_err-put_steps.ensures.1 (later_failed _ _ _ _ _ c.in_ok-put_head.ensures.0 (later_failed _ _ _ _ _ c.in_ok-put_ranks.ensures.0 (later_failed _ _ _ _ _ c.in_ok-put_lanes.ensures.0 (first_failed _ _ _ _ (c.in_err-put_steps.ensures histories stand).0)))) (rose_since _ _ _ c.in_ok-put_head.ensures.1 (rose_since _ _ _ c.in_ok-put_ranks.ensures.1 (rose_since _ _ _ c.in_ok-put_lanes.ensures.1 (c.in_err-put_steps.ensures histories stand).1))))
-
-pub returns : goal.returns
-returns g c = λ histories stand.
-    let study = c.args.study.now in
-    let text = text-split study histories c.args.lanes.now (map counts_of c.args.cores.now) (counts_are study.sizes c.args.cores.now histories c.requires.cores stand) in
-    let P : List ℕ → Type 0 = λ t. Writes c.put_end.result t (g.O.Sink.told c.args.out.now) (g.O.Sink.told c.put_end.new.out) (g.O.Sink.faults c.args.out.now) (g.O.Sink.faults c.put_end.new.out) in
-    subst P (sym text) (writes_after _ _ _ _ _ _ _ _ _ c.in_ok-put_head.ensures.0 c.in_ok-put_head.ensures.1 (writes_after _ _ _ _ _ _ _ _ _ c.in_ok-put_ranks.ensures.0 c.in_ok-put_ranks.ensures.1 (writes_after _ _ _ _ _ _ _ _ _ c.in_ok-put_lanes.ensures.0 c.in_ok-put_lanes.ensures.1 (writes_after _ _ _ _ _ _ _ _ _ (c.in_ok-put_steps.ensures histories stand).0 (c.in_ok-put_steps.ensures histories stand).1 c.put_end.ensures))))
+    let s = study.sizes in
+    let cores = c.args.cores.now in
+    let are = c.requires.cores in
+    let folds : FoldsStand s cores histories = record {
+      sizes = λ rank d here. fold_sizes (get_or cores rank d) ∙ are.sizes rank d here;
+      ranks = λ rank d here. fold_rank (get_or cores rank d) ∙ are.ranks rank d here;
+      rows = λ rank d here. (
+          let core = get_or cores rank d in
+          subst (λ r. StandsFor (fold_of core) (rank_table s r (pieces_of s r (histories rank)))) (are.ranks rank d here)
+          (subst (λ z. StandsFor (fold_of core) (rank_table z (core_rank core) (pieces_of z (core_rank core) (histories rank)))) (are.sizes rank d here) (stand.each rank d here).holds.rows)
+          );
+    } in
+    let text = states_are study cores histories c.args.lanes.now c.valid.ensures.sizes.some_ranks c.valid.ensures.count are (counts_are s cores histories are stand) folds in
+    let P : List ℕ → Type 0 = λ text. Writes c.put_result.result text (g.O.Sink.told c.args.out.now) (g.O.Sink.told c.put_result.new.out) (g.O.Sink.faults c.args.out.now) (g.O.Sink.faults c.put_result.new.out) in
+    subst P text c.put_result.ensures
