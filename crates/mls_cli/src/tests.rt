@@ -30,10 +30,10 @@ const TWO_CLIENTS: &[u8] =
     b"cells = 2\nsteps = 1\ngroups = 2\nclients = 2\nstatistics = [\"power\"]\n[[parameters]]\nname = \"x\"\nlow = 0\nhigh = 9\n";
 
 const MOST_GROUPS: &[u8] =
-    b"cells = 1\nsteps = 1\ngroups = 65535\nstatistics = [\"power\"]\n[[parameters]]\nname = \"x\"\nlow = 0\nhigh = 9\n";
+    b"cells = 1\nsteps = 1\ngroups = 65535\nthresholds = [65534, 65535]\n[[parameters]]\nname = \"x\"\nlow = 0\nhigh = 9\n";
 
 const MOST_SIGNED: &[u8] =
-    b"cells = 1\nsteps = 1\ngroups = 65535\nsamples = \"i16\"\nstatistics = [\"power\"]\n[[parameters]]\nname = \"x\"\nlow = 0\nhigh = 9\n";
+    b"cells = 1\nsteps = 1\ngroups = 65535\nsamples = \"i16\"\nthresholds = [-32768]\n[[parameters]]\nname = \"x\"\nlow = 0\nhigh = 9\n";
 
 // What stands before the length of the only lane, a client's of rank 0.
 const HEAD: &[u8] = &[77, 84, 65, 80, 0, 1, 0, 0, 0, 1, 0, 0, 0];
@@ -224,10 +224,10 @@ const ONE_FIELD_TEXT: &[u8] =
     b"melissa-result 1\nstudy cells 1 steps 1 groups 2 parameters 1 ranks 1 clients 1\nrank 0 accepted 2 kept 0 replay 0 stale 0 repeated 0 foreign 0 0 0 1 0 0\nlane 0 rank 0 client events 3 clean\nstep 0 cell 0 groups 2\npower 10 36 154 708\nvariance 44/12\nthird 144/64\nend\n";
 
 const LARGEST_TEXT: &[u8] =
-    b"melissa-result 1\nstudy cells 1 steps 1 groups 65535 parameters 1 ranks 1 clients 1\nrank 0 accepted 65535 kept 0 replay 0 stale 0 repeated 0 foreign 0 0 0 0 0 0\nlane 0 rank 0 client events 65535 clean\nstep 0 cell 0 groups 65535\npower 8589672450 562924184010750 36891236399144501250 2417667177417934889418750\nvariance 0/17179213830\nthird 0/2251696736043000\nend\n";
+    b"melissa-result 1\nstudy cells 1 steps 1 groups 65535 parameters 1 ranks 1 clients 1\nrank 0 accepted 65535 kept 0 replay 0 stale 0 repeated 0 foreign 0 0 0 0 0 0\nlane 0 rank 0 client events 65535 clean\nstep 0 cell 0 groups 65535\npower 8589672450 562924184010750 36891236399144501250 2417667177417934889418750\nvariance 0/17179213830\nthird 0/2251696736043000\nextrema 65535 65535\nexceed 131070 0\nsobol x - - 0 0 0 0 0\nend\n";
 
 const LEAST_TEXT: &[u8] =
-    b"melissa-result 1\nstudy cells 1 steps 1 groups 65535 parameters 1 ranks 1 clients 1\nrank 0 accepted 65535 kept 0 replay 0 stale 0 repeated 0 foreign 0 0 0 0 0 0\nlane 0 rank 0 client events 65535 clean\nstep 0 cell 0 groups 65535\npower -4294901760 140735340871680 -4611615649683210240 151113421608819433144320\nvariance 0/17179213830\nthird 0/2251696736043000\nend\n";
+    b"melissa-result 1\nstudy cells 1 steps 1 groups 65535 parameters 1 ranks 1 clients 1\nrank 0 accepted 65535 kept 0 replay 0 stale 0 repeated 0 foreign 0 0 0 0 0 0\nlane 0 rank 0 client events 65535 clean\nstep 0 cell 0 groups 65535\npower -4294901760 140735340871680 -4611615649683210240 151113421608819433144320\nvariance 0/17179213830\nthird 0/2251696736043000\nextrema -32768 -32768\nexceed 0\nsobol x - - 0 0 0 0 0\nend\n";
 
 #[test]
 fn lanes_are_folded(rt: HostRuntime) {
