@@ -6,7 +6,7 @@ ghost use Rattle.mls_field.specs.Cells.{AddsRow, HasRoom};
 ghost use Rattle.mls_field.specs.Kinds.{PowersWithin, HoldPowers, ExtremaWithin, HoldExtrema, NumbersWithin, HoldNumbers};
 
 use mls_base::shape::Shape;
-use mls_power::above::add_above;
+use mls_power::above::add_pair_above;
 use mls_power::ends::add_to_extrema;
 use mls_power::sums::add_sample;
 
@@ -14,11 +14,8 @@ use mls_power::sums::add_sample;
 pub(crate) fn shifted_value(signed: bool, sample: u16) -> u16
     ensures { result ≡ shifted signed sample }
 {
-    if signed {
-        sample.wrapping_add(32768)
-    } else {
-        sample
-    }
+    let shift = if signed { 32768 } else { 0 };
+    sample.wrapping_add(shift)
 }
 
 /// Adds a row's samples A and B to the power sums of a cell.
@@ -46,6 +43,5 @@ pub(crate) fn add_to_numbers(numbers: &mut [u32], shape: &Shape, a: u16, b: u16)
     requires room { HasRoom NumbersWithin numbers.old }
     ensures { (row : List ℕ) → slice_index row 0 ≡ a → slice_index row 1 ≡ b → AddsRow NumbersWithin (HoldNumbers shape.now.thresholds) numbers.old numbers.new row }
 {
-    add_above(numbers, shape, a);
-    add_above(numbers, shape, b);
+    add_pair_above(numbers, shape, a, b);
 }

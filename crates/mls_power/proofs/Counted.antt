@@ -66,3 +66,32 @@ counted ts x i m old now is within done k = elim (cases_lt k i) [
     | inr g ↦ (let same : k ≡ i = omega arith in let e = get_or-set_at now i k (get_or now i 0 + m) 0 same within in grind (arith, nat_tests, same, e, is, done k))
   ]
 ]
+
+-- what two samples add to the number at a place, when the places below `end` are done
+abbrev pub more_by_pair : ℕ → List ℕ → ℕ → ℕ → ℕ → ℕ
+more_by_pair end thresholds x y k = more end thresholds x k + more end thresholds y k
+
+-- Each place has what the two samples add.
+pub record AddsPair (thresholds : List ℕ) (x y : ℕ) (old new : List ℕ) : Type 0 where
+  pub rises : IsTrue (rises thresholds)
+  pub each : (k : ℕ) → get_or new k 0 ≡ get_or old k 0 + more_by_pair (length thresholds) thresholds x y k
+
+pub range_by_pair : (thresholds : List ℕ) (x y : ℕ) (old new : List ℕ) → AddsPair thresholds x y old new → (n : ℕ) → AreNumbersAbove n old → AreNumbersAbove (n + 2) new
+range_by_pair thresholds x y old new adds n range = record {
+  few = λ i. grind (arith, nat_tests, adds.each i, range.few i);
+  falling = λ i. (let r = rising thresholds i adds.rises in grind (arith, nat_tests, r, adds.each i, adds.each (i + 1), range.falling i));
+}
+
+pub holds_by_pair : (thresholds : List ℕ) (x y : ℕ) (old new : List ℕ) → AddsPair thresholds x y old new → (ws : List ℕ) → HoldsAbove thresholds old ws → HoldsAbove thresholds new ((ws ++ x ∷ []) ++ y ∷ [])
+holds_by_pair thresholds x y old new adds ws holds = record {
+  each = λ i h. grind (arith, nat_tests, adds.each i, holds.each i h, above-push (get_or thresholds i 0) ws x, above-push (get_or thresholds i 0) (ws ++ x ∷ []) y);
+}
+
+pub counted_pair : (ts : List ℕ) (x y i m : ℕ) (old now : List ℕ) → m ≡ cond (nat_lt (get_or ts i 0) x) 1 0 + cond (nat_lt (get_or ts i 0) y) 1 0 → i < length now → ((k : ℕ) → get_or now k 0 ≡ get_or old k 0 + more_by_pair i ts x y k) → (k : ℕ) → get_or (set now i (get_or now i 0 + m)) k 0 ≡ get_or old k 0 + more_by_pair (i + 1) ts x y k
+counted_pair ts x y i m old now is within done k = elim (cases_lt k i) [
+  | inl h ↦ (let e = get_or-set_other now i k (get_or now i 0 + m) 0 (λ p. omega arith) in grind (arith, nat_tests, e, done k))
+  | inr h ↦ elim (cases_lt i k) [
+    | inl g ↦ (let e = get_or-set_other now i k (get_or now i 0 + m) 0 (λ p. omega arith) in grind (arith, nat_tests, e, done k))
+    | inr g ↦ (let same : k ≡ i = omega arith in let e = get_or-set_at now i k (get_or now i 0 + m) 0 same within in grind (arith, nat_tests, same, e, is, done k))
+  ]
+]

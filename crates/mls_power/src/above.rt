@@ -26,3 +26,18 @@ pub fn add_above(numbers: &mut [u32], shape: &Shape, x: u16)
         numbers[i as usize] += one_if_above(x, shape.threshold(i));
     }
 }
+
+/// Adds two samples, the one after the other, in one walk over the thresholds.
+pub fn add_pair_above(numbers: &mut [u32], shape: &Shape, x: u16, y: u16)
+    requires size { length shape.now.thresholds ≤ length numbers.old }
+    requires room { AreNumbersAbove 131068 numbers.old }
+    ensures range { (n : ℕ) → AreNumbersAbove n numbers.old → AreNumbersAbove (n + 2) numbers.new }
+    ensures adds { (ws : List ℕ) → HoldsAbove shape.now.thresholds numbers.old ws → HoldsAbove shape.now.thresholds numbers.new ((ws ++ x ∷ []) ++ y ∷ []) }
+    ensures behind { (i : ℕ) → length shape.now.thresholds ≤ i → slice_index numbers.new i ≡ slice_index numbers.old i }
+{
+    for i in 0..shape.thresholds() {
+        let threshold = shape.threshold(i);
+        let more = one_if_above(x, threshold) + one_if_above(y, threshold);
+        numbers[i as usize] += more;
+    }
+}
