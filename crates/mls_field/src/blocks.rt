@@ -1,9 +1,9 @@
 //! Adding the rows of a block to the sums of its cells, one kind of sums a function. The cells lie in the sums from the cell `first` on.
 
-ghost use Rattle.std.specs.Prelude.{◌≡◌, ℕ, ◌+◌, ◌*◌, ◌^◌, ◌<◌, ◌≤◌, length, take, slice_index};
+ghost use Rattle.std.specs.Prelude.{◌≡◌, ℕ, ◌+◌, ◌-◌, ◌*◌, ◌^◌, ◌<◌, ◌≤◌, length, take, slice_index};
 ghost use Rattle.mls_field.specs.Cells.{cell_of, AddsRows, HasRoom};
 ghost use Rattle.mls_field.specs.Kinds.{PowersWithin, HoldPowers, ExtremaWithin, HoldExtrema, NumbersWithin, HoldNumbers, ProductsWithin, HoldProducts};
-ghost use Rattle.mls_field.specs.ShiftedRows.{shifted_row};
+ghost use Rattle.mls_field.specs.ShiftedRows.{shifted_row, row_in};
 
 use crate::cells::{add_to_ends, add_to_numbers, add_to_powers, shifted_value};
 use mls_base::rows::Rows;
@@ -59,17 +59,55 @@ pub(crate) fn add_numbers<R: Rows>(numbers: &mut [u32], first: usize, shape: &Sh
     }
 }
 
-/// The row of shifted values at a place of a block, in the front of an array.
-fn row_at<R: Rows>(rows: &R, signed: bool, place: u32) -> [u16; 18]
+// How many places of a block are read before their rows are added: a load of several samples soon after the stores of each waits for them.
+const PLACES: u32 = 32;
+
+// Room for the samples of a row.
+const ROW_ROOM: usize = 18;
+
+/// Reads the row of shifted values at a place of a block into the front of an array.
+fn read_row<R: Rows>(row: &mut [u16], rows: &R, signed: bool, place: u32)
     requires few { R.row_count rows.now ≤ 18 }
+    requires size { length row.old ≡ 18 }
     requires place { place < R.place_count rows.now }
-    ensures { take (R.row_count rows.now) result ≡ shifted_row signed (R.row_count rows.now) (R.sample rows.now) place }
+    ensures { take (R.row_count rows.now) row.new ≡ shifted_row signed (R.row_count rows.now) (R.sample rows.now) place }
 {
-    let mut row = [0; 18];
     for i in 0..rows.rows() {
         row[i as usize] = shifted_value(signed, rows.at(i, place));
     }
-    row
+}
+
+/// Reads the rows at the places from `from` to before `end`, each into the front of an array of 18.
+fn read_rows<R: Rows>(samples: &mut [u16], rows: &R, signed: bool, from: u32, end: u32)
+    requires few { R.row_count rows.now ≤ 18 }
+    requires size { 18 * (end - from) ≤ length samples.old }
+    requires places { end ≤ R.place_count rows.now }
+    ensures { (k : ℕ) → k < end - from → row_in (R.row_count rows.now) samples.new k ≡ shifted_row signed (R.row_count rows.now) (R.sample rows.now) (from + k) }
+{
+    for place in from..end {
+        let at = (place - from) as usize * ROW_ROOM;
+        read_row(&mut samples[at..at + ROW_ROOM], rows, signed, place);
+    }
+}
+
+/// Adds the rows that were read to the sums of samples and products of as many cells.
+fn add_rows(words: &mut [u64], first: usize, parameters: u32, count: u32, samples: &[u16])
+    requires few { parameters ≤ 16 }
+    requires cells { (4 + 4 * parameters) * (first + count) ≤ length words.old }
+    requires size { 18 * count ≤ length samples.now }
+    requires room { (k : ℕ) → k < count → HasRoom (ProductsWithin parameters) (cell_of (4 + 4 * parameters) words.old (first + k)) }
+    ensures { AddsRows (ProductsWithin parameters) (HoldProducts parameters) (4 + 4 * parameters) words.old words.new first count (row_in (parameters + 2) samples.now) }
+{
+    let size = sum_count(parameters);
+    for k in 0..count as usize {
+        let at = (first + k) * size;
+        let row = k * ROW_ROOM;
+        add_row(
+            &mut words[at..at + size],
+            parameters,
+            &samples[row..row + parameters as usize + 2],
+        );
+    }
 }
 
 /// Adds the row at each place of a block to the sums of samples and products.
@@ -81,15 +119,19 @@ pub(crate) fn add_products<R: Rows>(words: &mut [u64], first: usize, shape: &Sha
 {
     let parameters = shape.parameters();
     let signed = shape.signed();
-    let size = sum_count(parameters);
-    for cell in 0..rows.cells() {
-        let row = row_at(rows, signed, cell);
-        let at = (first + cell as usize) * size;
-        add_row(
-            &mut words[at..at + size],
+    let mut samples = [0; ROW_ROOM * PLACES as usize];
+    let mut from = 0;
+    while from < rows.cells() {
+        let end = from + PLACES.min(rows.cells() - from);
+        read_rows(&mut samples, rows, signed, from, end);
+        add_rows(
+            words,
+            first + from as usize,
             parameters,
-            &row[..parameters as usize + 2],
+            end - from,
+            &samples,
         );
+        from = end;
     }
 }
 

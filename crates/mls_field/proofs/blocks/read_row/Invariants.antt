@@ -1,6 +1,6 @@
 use Rattle.std.proofs.Common.{◌≡◌, length, take}
 use Rattle.mls_field.specs.ShiftedRows.{shifted_row}
-use Rattle.mls_field.proofs.blocks.row_at.Given as goal
+use Rattle.mls_field.proofs.blocks.read_row.Given as goal
 
 -- the samples before i are there
 abbrev pub invariant-loop-i : goal.invariant-loop-i
