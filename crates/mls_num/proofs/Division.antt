@@ -1,5 +1,5 @@
 -- One more digit of a long division, and a root of a quotient.
-use Rattle.std.proofs.Common.{◌≡◌, ℕ, ◌+◌, ◌*◌, ◌/◌, ◌%◌, ◌^◌, ◌<◌, ◌≤◌, sym, ap, ◌∙◌, arith}
+use Rattle.std.proofs.Common.{◌≡◌, ℕ, ◌+◌, ◌-◌, ◌*◌, ◌/◌, ◌%◌, ◌^◌, ◌<◌, ◌≤◌, sym, ap, ◌∙◌, arith}
 use Rattle.std.proofs.lemmas.Nat.{div-add-mod', mod_below, mul-le, div-mul-add, pow-add}
 use Rattle.std.proofs.Math.Nat.{le_of_mul-le-mul_right, mul-le-mul_right}
 
@@ -19,6 +19,19 @@ digit_more q r num den k e =
 
 pub quotient_is : (q r num den : ℕ) → q * den + r ≡ num * 1000000000000 → r < den → q ≡ num * 1000000000000 / den
 quotient_is q r num den e h = sym (ap (λ (n : ℕ). n / den) (sym e) ∙ div-mul-add q den r h)
+
+-- a quotient of a fraction that is at most 1
+pub at_most_one : (num den : ℕ) → num ≤ den → 0 < den → num * 1000000000000 / den ≤ 1000000000000
+at_most_one num den h some = quotient_small (num * 1000000000000 / den) (num * 1000000000000 % den) num den 1000000000000 (div-add-mod' (num * 1000000000000) den) h some
+
+-- six digits, and six more of the rest
+pub six_and_six : (num den : ℕ) → 0 < den → num * 1000000 / den * 1000000 + (num * 1000000 - num * 1000000 / den * den) * 1000000 / den ≡ num * 1000000000000 / den
+six_and_six num den some =
+    let front = num * 1000000 / den in
+    let rest = num * 1000000 - num * 1000000 / den * den in
+    let first = div-add-mod' (num * 1000000) den in
+    let second = div-add-mod' (rest * 1000000) den in
+    quotient_is (front * 1000000 + rest * 1000000 / den) (rest * 1000000 % den) num den (omega (arith, first, second)) (mod_below (rest * 1000000) den some)
 
 -- the root of the quotient a / d, by what it has at a and d
 pub record IsRootOf (r a d : ℕ) : Type 0 where

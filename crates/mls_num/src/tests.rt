@@ -8,6 +8,10 @@ fn quotients_and_roots(rt: HostRuntime) {
     assert_eq!(rt; digits12(1, 3), 333_333_333_333);
     assert_eq!(rt; digits12(2, 3), 666_666_666_666);
     assert_eq!(rt; digits12(0, 1), 0);
+    assert_eq!(rt; digits12(1 << 88, 3 << 88), 333_333_333_333);
+    assert_eq!(rt; digits12(2 << 100, 3 << 100), 666_666_666_666);
+    assert_eq!(rt; digits12(2 << 110, 3 << 110), 666_666_666_666);
+    assert_eq!(rt; digits12(1 << 106, (1 << 107) + 1), 499_999_999_999);
     let most = (1 << 124) - 1;
     assert_eq!(rt; digits12(most, most), 1_000_000_000_000);
     for (q, want) in [

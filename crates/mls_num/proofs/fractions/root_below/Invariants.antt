@@ -1,5 +1,5 @@
 use Rattle.std.proofs.Common.{◌*◌, ◌-◌, ◌^◌, ◌<◌, ◌≤◌}
-use Rattle.mls_num.proofs.fractions.root.Given as goal
+use Rattle.mls_num.proofs.fractions.root_below.Given as goal
 
 -- the root lies from `low` to below `high`
 abbrev pub invariant-loop-high : goal.invariant-loop-high

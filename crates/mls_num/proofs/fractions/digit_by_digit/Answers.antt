@@ -2,7 +2,7 @@ use Rattle.std.proofs.Common.{◌≡◌, ◌+◌, ◌*◌, ◌^◌, lit<, arith}
 use Rattle.std.proofs.lemmas.Nat.{mod_below, pow-add}
 use Rattle.std.proofs.Math.Nat.{pow-le-pow_right}
 use Rattle.mls_num.proofs.Division.{digit_more, quotient_small}
-use Rattle.mls_num.proofs.fractions.digits12.Goals as goal
+use Rattle.mls_num.proofs.fractions.digit_by_digit.Goals as goal
 
 pub loop-digit-preserved : goal.loop-digit-preserved
 loop-digit-preserved c =

@@ -1,5 +1,5 @@
 use Rattle.std.proofs.Common.{◌≡◌, ◌+◌, ◌*◌, ◌^◌, ◌<◌, ◌≤◌}
-use Rattle.mls_num.proofs.fractions.digits12.Given as goal
+use Rattle.mls_num.proofs.fractions.digit_by_digit.Given as goal
 
 -- the division as far as it has come, and that its quotient is small
 abbrev pub invariant-loop-digit : goal.invariant-loop-digit
