@@ -1,5 +1,5 @@
 -- What the rules say of the sums, and that one more row keeps them.
-use Rattle.std.proofs.Common.{◌≡◌, ℕ, zero, suc, ◌+◌, ◌-◌, ◌*◌, ◌^◌, ◌<◌, ◌≤◌, List, slice_index, arith}
+use Rattle.std.proofs.Common.{◌≡◌, ℕ, zero, suc, ◌+◌, ◌-◌, ◌*◌, ◌^◌, ◌<◌, ◌≤◌, List, arith}
 use Rattle.std.proofs.lemmas.Nat.{mul-le}
 use Rattle.std.proofs.Math.Nat.{le_of_mul-le-mul_left, mul-le-mul_left, mul-pos}
 use Rattle.mls_cov.specs.Rules.{AreSums, AreProducts, KeepsRules, HasRoom, variance_in, covariance_in}
@@ -78,22 +78,22 @@ space_from_room p sums h =
           );
     }
 
--- what a row adds to the sums
-pub record AddsRow (p : ℕ) (old new row : List ℕ) : Type 0 where
-  pub samples : (j : ℕ) → slice_index row j ≤ 65535
-  pub outputs : let a = slice_index row 0 in let b = slice_index row 1 in Grew 0 old new a b (a * a) (b * b)
-  pub columns : (k : ℕ) → k < p → let a = slice_index row 0 in let b = slice_index row 1 in let c = slice_index row (2 + k) in Grew (4 + 4 * k) old new c (c * c) (a * c) (b * c)
+-- what a row adds to the sums, where `sample` gives its samples by number
+pub record AddsRow (p : ℕ) (old new : List ℕ) (sample : ℕ → ℕ) : Type 0 where
+  pub samples : (j : ℕ) → sample j ≤ 65535
+  pub outputs : let a = sample 0 in let b = sample 1 in Grew 0 old new a b (a * a) (b * b)
+  pub columns : (k : ℕ) → k < p → let a = sample 0 in let b = sample 1 in let c = sample (2 + k) in Grew (4 + 4 * k) old new c (c * c) (a * c) (b * c)
 
-pub rules_more : (n p : ℕ) (old new row : List ℕ) → AddsRow p old new row → KeepsRules n p old → KeepsRules (n + 1) p new
-rules_more n p old new row adds h =
-    let a = slice_index row 0 in
-    let b = slice_index row 1 in
+pub rules_more : (n p : ℕ) (old new : List ℕ) (sample : ℕ → ℕ) → AddsRow p old new sample → KeepsRules n p old → KeepsRules (n + 1) p new
+rules_more n p old new sample adds h =
+    let a = sample 0 in
+    let b = sample 1 in
     let g = adds.outputs in
     record {
       a = rw (g.first, g.third) (sums_more n _ _ a (adds.samples 0) h.a);
       b = rw (g.second, g.fourth) (sums_more n _ _ b (adds.samples 1) h.b);
       columns = λ k in_p. (
-          let c = slice_index row (2 + k) in
+          let c = sample (2 + k) in
           let column = h.columns k in_p in
           let grown = adds.columns k in_p in
           record {

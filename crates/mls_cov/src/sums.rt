@@ -51,24 +51,37 @@ fn add_outputs(sums: &mut [u64], a: u16, b: u16)
 }
 
 // Adds each sample and each product of a row to its sum.
-fn add_samples(sums: &mut [u64], parameters: usize, row: &[u16])
+fn add_samples(sums: &mut [u64], parameters: usize, samples: &[u16], at: usize, stride: usize)
     requires few { parameters ≤ 16 }
-    requires row { length row.now ≡ parameters + 2 }
+    requires row { at + stride * (parameters + 1) < length samples.now }
     requires size { 4 + 4 * parameters ≤ length sums.old }
     requires space { HasSpace parameters sums.old }
-    ensures outputs { let a = slice_index row.now 0 in let b = slice_index row.now 1 in Grew 0 sums.old sums.new a b (a * a) (b * b) }
-    ensures columns { (k : ℕ) → k < parameters → let a = slice_index row.now 0 in let b = slice_index row.now 1 in let c = slice_index row.now (2 + k) in Grew (4 + 4 * k) sums.old sums.new c (c * c) (a * c) (b * c) }
+    ensures outputs { let a = slice_index samples.now at in let b = slice_index samples.now (at + stride) in Grew 0 sums.old sums.new a b (a * a) (b * b) }
+    ensures columns { (k : ℕ) → k < parameters → let a = slice_index samples.now at in let b = slice_index samples.now (at + stride) in let c = slice_index samples.now (at + stride * (2 + k)) in Grew (4 + 4 * k) sums.old sums.new c (c * c) (a * c) (b * c) }
     ensures beyond { (i : ℕ) → 4 + 4 * parameters ≤ i → slice_index sums.new i ≡ slice_index sums.old i }
 {
-    let a = row[0];
-    let b = row[1];
+    let a = samples[at];
+    let b = samples[at + stride];
     add_outputs(sums, a, b);
     for k in 0..parameters {
-        add_column(sums, 4 + 4 * k, a, b, row[2 + k]);
+        add_column(sums, 4 + 4 * k, a, b, samples[at + stride * (2 + k)]);
     }
 }
 
-/// Adds a row of samples to the sums that stand in the front of a list: the sums of A, of B, of their squares, and for each parameter k those of C^k, of its squares, of its products with A and of those with B.
+/// Adds a row of samples to the sums that stand in the front of a list: the sums of A, of B, of their squares, and for each parameter k those of C^k, of its squares, of its products with A and of those with B. The row's samples stand in a list from a place on, each so many places after the one before.
+pub fn add_row_at(sums: &mut [u64], parameters: u32, samples: &[u16], at: usize, stride: usize)
+    requires few { parameters ≤ 16 }
+    requires row { at + stride * (parameters + 1) < length samples.now }
+    requires size { 4 + 4 * parameters ≤ length sums.old }
+    requires room { HasRoom parameters sums.old }
+    ensures rules { (n : ℕ) → KeepsRules n parameters sums.old → KeepsRules (n + 1) parameters sums.new }
+    ensures adds { (row : List ℕ) → length row ≡ parameters + 2 → ((j : ℕ) → j < parameters + 2 → slice_index row j ≡ slice_index samples.now (at + stride * j)) → (rows : List (List ℕ)) → HoldsSums parameters sums.old rows → HoldsSums parameters sums.new (rows ++ row ∷ []) }
+    ensures beyond { (i : ℕ) → 4 + 4 * parameters ≤ i → slice_index sums.new i ≡ slice_index sums.old i }
+{
+    add_samples(sums, parameters as usize, samples, at, stride);
+}
+
+/// Adds a row of samples, which stand side by side, to the sums that stand in the front of a list.
 pub fn add_row(sums: &mut [u64], parameters: u32, row: &[u16])
     requires few { parameters ≤ 16 }
     requires row { length row.now ≡ parameters + 2 }
@@ -78,5 +91,5 @@ pub fn add_row(sums: &mut [u64], parameters: u32, row: &[u16])
     ensures adds { (rows : List (List ℕ)) → HoldsSums parameters sums.old rows → HoldsSums parameters sums.new (rows ++ row.now ∷ []) }
     ensures beyond { (i : ℕ) → 4 + 4 * parameters ≤ i → slice_index sums.new i ≡ slice_index sums.old i }
 {
-    add_samples(sums, parameters as usize, row);
+    add_row_at(sums, parameters, row, 0, 1);
 }

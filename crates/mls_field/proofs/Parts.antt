@@ -3,12 +3,12 @@ use Rattle.std.proofs.Common.{◌≡◌, ℕ, ◌+◌, ◌-◌, ◌*◌, ◌<◌
 use Rattle.std.specs.List.{between}
 use Rattle.std.proofs.lemmas.Nat.{mul-le}
 use Rattle.std.proofs.lemmas.Bool.{cases_lt}
-use Rattle.std.proofs.lemmas.List.{take_at, take-take}
+use Rattle.std.proofs.lemmas.List.{take_at}
 use Rattle.std.proofs.lemmas.List.Edits.{length-between}
 use Rattle.std.proofs.lemmas.Slice.{between_is, take-put_mid_below, drop-put_mid, between-put_mid}
 use borrow.Rule.Slice.PartMut.{put_mid}
 use Rattle.mls_field.specs.Cells.{cell_of, AddsRow, AddsRows, HasRoom}
-use Rattle.mls_field.specs.ShiftedRows.{shifted_row, row_in}
+use Rattle.mls_field.specs.ShiftedRows.{shifted_row}
 
 -- the part of the numbers from `at` on that the code takes
 pub part_is_cell : (size : ℕ) (words : List ℕ) (cell at : ℕ) → at ≡ cell * size → between at (at + size) words ≡ cell_of size words cell
@@ -54,15 +54,6 @@ one_more within holds size start words part first k at row old e fits whole adds
 pub room_behind : (within : ℕ → List ℕ → Type 0) (holds : List ℕ → List (List ℕ) → Type 0) (size : ℕ) (start words : List ℕ) (first k at : ℕ) (row : ℕ → List ℕ) → AddsRows within holds size start words first k row → at ≡ (first + k) * size → HasRoom within (cell_of size start (first + k)) → HasRoom within (between at (at + size) words)
 room_behind within holds size start words first k at row old e room =
     subst (λ (ws : List ℕ). HasRoom within ws) (sym (part_is_cell size words (first + k) at e ∙ old.behind (first + k) (omega arith))) room
-
-row_in_cell : (n : ℕ) (samples : List ℕ) (j : ℕ) → n ≤ 18 → row_in n samples j ≡ take n (cell_of 18 samples j)
-row_in_cell n samples j few = sym (take-take n 18 (drop (18 * j) samples) few)
-
--- one more row was read
-pub one_more_read : (n : ℕ) (samples part : List ℕ) (k at : ℕ) (row : ℕ → List ℕ) → n ≤ 18 → at ≡ k * 18 → at + 18 ≤ length samples → length part ≡ 18 → ((j : ℕ) → j < k → row_in n samples j ≡ row j) → take n part ≡ row k → (j : ℕ) → j < k + 1 → row_in n (put_mid at (at + 18 - at) samples part) j ≡ row j
-one_more_read n samples part k at row few e fits whole old read = below_more _ _
-    (λ j below. row_in_cell n _ j few ∙ (ap (λ (xs : List ℕ). take n xs) (cell_before 18 samples part k j at e fits (omega (arith, e, cell_end 18 j k below))) ∙ (sym (row_in_cell n samples j few) ∙ old j below)))
-    (row_in_cell n _ k few ∙ (ap (λ (xs : List ℕ). take n xs) (cell_written 18 samples part k at e fits whole) ∙ read))
 
 row_there : (within : ℕ → List ℕ → Type 0) (holds : List ℕ → List (List ℕ) → Type 0) (size : ℕ) (start words new : List ℕ) (first from count : ℕ) (row taken : ℕ → List ℕ) → AddsRows within holds size start words first from row → AddsRows within holds size words new (first + from) count taken → ((k : ℕ) → k < count → taken k ≡ row (from + k)) → (j k : ℕ) → j ≡ from + k → k < count → AddsRow within holds (cell_of size start (first + j)) (cell_of size new (first + j)) (row j)
 row_there within holds size start words new first from count row taken old adds same j k e below =

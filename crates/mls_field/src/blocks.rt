@@ -1,6 +1,7 @@
 //! Adding the rows of a block to the sums of its cells, one kind of sums a function. The cells lie in the sums from the cell `first` on.
 
-ghost use Rattle.std.specs.Prelude.{◌≡◌, ℕ, ◌+◌, ◌-◌, ◌*◌, ◌^◌, ◌<◌, ◌≤◌, length, take, slice_index};
+ghost use Rattle.std.specs.Prelude.{◌≡◌, ℕ, ◌+◌, ◌-◌, ◌*◌, ◌^◌, ◌<◌, ◌≤◌, length, slice_index};
+ghost use Rattle.mls_model.specs.Samples.{shifted};
 ghost use Rattle.mls_field.specs.Cells.{cell_of, AddsRows, HasRoom};
 ghost use Rattle.mls_field.specs.Kinds.{PowersWithin, HoldPowers, ExtremaWithin, HoldExtrema, NumbersWithin, HoldNumbers, ProductsWithin, HoldProducts};
 ghost use Rattle.mls_field.specs.ShiftedRows.{shifted_row, row_in};
@@ -8,7 +9,7 @@ ghost use Rattle.mls_field.specs.ShiftedRows.{shifted_row, row_in};
 use crate::cells::{add_to_ends, add_to_numbers, add_to_powers, shifted_value};
 use mls_base::rows::Rows;
 use mls_base::shape::Shape;
-use mls_cov::sums::{add_row, sum_count};
+use mls_cov::sums::{add_row_at, sum_count};
 use mls_power::ends::{EXTREMA_NUMBERS, NO_EXTREMA};
 use mls_power::sums::POWER_WORDS;
 
@@ -59,54 +60,58 @@ pub(crate) fn add_numbers<R: Rows>(numbers: &mut [u32], first: usize, shape: &Sh
     }
 }
 
-// How many places of a block are read before their rows are added: a load of several samples soon after the stores of each waits for them.
-const PLACES: u32 = 32;
+// How many places of a block are read before their rows are added. The loop over a row's places is made of a few steps that each read several samples.
+const PLACES: usize = 32;
 
-// Room for the samples of a row.
-const ROW_ROOM: usize = 18;
+// Room for the samples of the most rows at so many places.
+const ROOM: usize = 18 * PLACES;
 
-/// Reads the row of shifted values at a place of a block into the front of an array.
-fn read_row<R: Rows>(row: &mut [u16], rows: &R, signed: bool, place: u32)
-    requires few { R.row_count rows.now ≤ 18 }
-    requires size { length row.old ≡ 18 }
-    requires place { place < R.place_count rows.now }
-    ensures { take (R.row_count rows.now) row.new ≡ shifted_row signed (R.row_count rows.now) (R.sample rows.now) place }
+/// Reads the shifted values of a row, at the places from `from` to before `end`, into an array from `at` on.
+fn read_row<R: Rows>(
+    samples: &mut [u16],
+    at: usize,
+    rows: &R,
+    signed: bool,
+    row: u32,
+    from: u32,
+    end: u32,
+)
+    requires size { at + (end - from) ≤ length samples.old }
+    requires row { row < R.row_count rows.now }
+    requires places { end ≤ R.place_count rows.now }
+    ensures values { (k : ℕ) → k < end - from → slice_index samples.new (at + k) ≡ shifted signed (R.sample rows.now row (from + k)) }
+    ensures before { (i : ℕ) → i < at → slice_index samples.new i ≡ slice_index samples.old i }
 {
-    for i in 0..rows.rows() {
-        row[i as usize] = shifted_value(signed, rows.at(i, place));
+    for place in from..end {
+        samples[at + (place - from) as usize] = shifted_value(signed, rows.at(row, place));
     }
 }
 
-/// Reads the rows at the places from `from` to before `end`, each into the front of an array of 18.
+/// Reads the rows at the places from `from` to before `end`: first the samples of one row, then those of the next.
 fn read_rows<R: Rows>(samples: &mut [u16], rows: &R, signed: bool, from: u32, end: u32)
-    requires few { R.row_count rows.now ≤ 18 }
-    requires size { 18 * (end - from) ≤ length samples.old }
+    requires few { end - from ≤ 32 }
+    requires size { 32 * R.row_count rows.now ≤ length samples.old }
     requires places { end ≤ R.place_count rows.now }
     ensures { (k : ℕ) → k < end - from → row_in (R.row_count rows.now) samples.new k ≡ shifted_row signed (R.row_count rows.now) (R.sample rows.now) (from + k) }
 {
-    for place in from..end {
-        let at = (place - from) as usize * ROW_ROOM;
-        read_row(&mut samples[at..at + ROW_ROOM], rows, signed, place);
+    for row in 0..rows.rows() {
+        read_row(samples, row as usize * PLACES, rows, signed, row, from, end);
     }
 }
 
 /// Adds the rows that were read to the sums of samples and products of as many cells.
 fn add_rows(words: &mut [u64], first: usize, parameters: u32, count: u32, samples: &[u16])
     requires few { parameters ≤ 16 }
+    requires places { count ≤ 32 }
     requires cells { (4 + 4 * parameters) * (first + count) ≤ length words.old }
-    requires size { 18 * count ≤ length samples.now }
+    requires size { 32 * (parameters + 2) ≤ length samples.now }
     requires room { (k : ℕ) → k < count → HasRoom (ProductsWithin parameters) (cell_of (4 + 4 * parameters) words.old (first + k)) }
     ensures { AddsRows (ProductsWithin parameters) (HoldProducts parameters) (4 + 4 * parameters) words.old words.new first count (row_in (parameters + 2) samples.now) }
 {
     let size = sum_count(parameters);
     for k in 0..count as usize {
         let at = (first + k) * size;
-        let row = k * ROW_ROOM;
-        add_row(
-            &mut words[at..at + size],
-            parameters,
-            &samples[row..row + parameters as usize + 2],
-        );
+        add_row_at(&mut words[at..at + size], parameters, samples, k, PLACES);
     }
 }
 
@@ -119,10 +124,10 @@ pub(crate) fn add_products<R: Rows>(words: &mut [u64], first: usize, shape: &Sha
 {
     let parameters = shape.parameters();
     let signed = shape.signed();
-    let mut samples = [0; ROW_ROOM * PLACES as usize];
+    let mut samples = [0; ROOM];
     let mut from = 0;
     while from < rows.cells() {
-        let end = from + PLACES.min(rows.cells() - from);
+        let end = from + (PLACES as u32).min(rows.cells() - from);
         read_rows(&mut samples, rows, signed, from, end);
         add_rows(
             words,
