@@ -4,6 +4,7 @@
 mod commands;
 mod design;
 mod fold;
+mod output;
 mod program;
 mod steps;
 #[cfg(test)]
@@ -12,5 +13,6 @@ mod watch;
 mod words;
 
 pub use commands::melissa;
+pub use output::BufferedSink;
 pub use program::run_program;
 pub use words::{NamePair, Words, WordsFault, read_words};

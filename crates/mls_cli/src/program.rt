@@ -3,12 +3,13 @@
 ghost use Rattle.std.specs.Prelude.{◌≡◌, vec_len, IfOk};
 
 use crate::commands::melissa;
-use mls_base::ends::{StdFiles, StdSink};
+use crate::output::BufferedSink;
+use mls_base::ends::StdFiles;
 use mls_result::Status;
 use mls_slot::{FileDisk, SlotKeeper};
 use std::alloc::{AllocError, Global};
-use std::env;
 use std::process::ExitCode;
+use std::{env, io};
 
 /// The checkpoint store of each rank there may be, over the files `checkpoints/rank-R.0` and `checkpoints/rank-R.1`.
 fn checkpoint_stores<'a>(
@@ -35,18 +36,21 @@ fn words(rt: &HostRuntime, alloc: Global) -> Result<Vec<String>, Status> {
     }
 }
 
-/// Carries out the command of the program's words.
+/// Carries out the command of the program's words. `Done` is answered where all that was printed was also written out.
 fn answer(rt: &HostRuntime, alloc: Global) -> Result<Status, Status> {
     let words = words(rt, alloc)?;
     let mut files = StdFiles::new(rt);
-    let mut out = StdSink::new(rt);
-    match checkpoint_stores(rt, alloc) {
-        Ok(keepers) => {
-            let (status, _) = melissa(alloc, words.as_slice(), &mut files, &mut out, keepers);
-            Ok(status)
-        }
-        Err(_) => Err(Status::Memory),
+    let Ok(mut out) = BufferedSink::new(alloc, io::writer(rt)) else {
+        return Err(Status::Memory);
+    };
+    let Ok(keepers) = checkpoint_stores(rt, alloc) else {
+        return Err(Status::Memory);
+    };
+    let (status, _) = melissa(alloc, words.as_slice(), &mut files, &mut out, keepers);
+    if status.number() == 0 && out.finish().is_err() {
+        return Err(Status::WriteFault);
     }
+    Ok(status)
 }
 
 /// The whole program: carries out the command of its words over the files of the system and standard output, prints the reason

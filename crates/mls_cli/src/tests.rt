@@ -2,8 +2,9 @@
 
 ghost use Rattle.std.specs.Prelude.{◌≡◌, vec_len, IfOk};
 
-use crate::{Words, WordsFault, melissa, read_words};
+use crate::{BufferedSink, Words, WordsFault, melissa, read_words};
 use mls_base::memory::{MemFiles, MemKeeper, MemSink};
+use mls_base::outside::Sink;
 use mls_model::studies::{Key, Product};
 use mls_result::{FileRole, Part, Status};
 use mls_study::StudyFault;
@@ -630,6 +631,17 @@ fn designs_are_printed(rt: HostRuntime) {
             "{number}"
         );
     }
+}
+
+#[test]
+fn gathered_output_is_written_out(rt: HostRuntime) {
+    let alloc = rt.alloc();
+    let mut sink = BufferedSink::new(alloc, Vec::new(alloc)).expect(&rt, "memory");
+    assert_eq!(rt; sink.write(b"melissa-"), Ok(8));
+    assert_eq!(rt; sink.write(b"result 1\n"), Ok(9));
+    assert!(rt; sink.writer().is_empty());
+    assert_eq!(rt; sink.finish(), Ok(()));
+    assert!(rt; sink.writer().as_slice() == b"melissa-result 1\n".as_slice());
 }
 
 #[test]

@@ -1,7 +1,6 @@
 -- The study, the tape and the schedule of three names, one after the other.
-use Rattle.std.proofs.Common.{◌≡◌, ℕ, List, Result, Ok, ◌∙◌, sym, subst, true}
+use Rattle.std.proofs.Common.{◌≡◌, ℕ, Ok, ◌∙◌, subst}
 use Rattle.std.proofs.lemmas.Result.{err_from_is_err_and}
-use Rattle.mls_model.specs.Schedules.{is_legal}
 use Rattle.mls_cli.specs.Ideal.{right_schedule}
 use Rattle.mls_cli.proofs.fold.load_scheduled.Goals as goal
 use Rattle.mls_cli.proofs.Agreeing.{scheduled_of, scheduled_refused_study, scheduled_refused_tape, scheduled_refused_schedule}
