@@ -21,7 +21,7 @@ def main():
                 file.write(f'[[parameters]]\nname = "x{k}"\nlow = 0\nhigh = 4294967295\n')
         print(f"groups {groups} parameters {parameters}")
         for _ in range(3):
-            seconds, peak = run("design", study)
+            seconds, _, peak = run("design", study)
             print(f"{seconds:.2f} s, peak {peak / 1e6:.1f} MB")
 
 

@@ -4,8 +4,10 @@
 
 Makes a study and a tape with one client lane for each rank and client that share cells (random samples from a fixed
 seed) in a folder of its own, folds it three times with the program that `rt ci` leaves, output to nowhere, and prints
-for each run the seconds, the nanoseconds per cell, step and group, and the peak memory beside the tape's size. With
-`--all` the study shows all statistics and has three thresholds; without, power alone. `rt ci` first.
+for each run the seconds, those of the processor, the nanoseconds per cell, step and group, and the peak memory beside
+the tape's size. Then it folds it three times over an output that is full: the program ends at its first write, when all
+is read and added. The difference of the least seconds is what the text takes. With `--all` the study shows all
+statistics and has three thresholds; without, power alone. `rt ci` first.
 """
 import argparse
 import os
@@ -66,10 +68,18 @@ def main():
         write_study(study, options)
         write_tape(tape, options)
         print(f"tape {os.path.getsize(tape) / 1e6:.1f} MB, {options}")
-        for _ in range(3):
-            seconds, peak = run("fold", study, tape)
-            each = seconds * 1e9 / (options.cells * options.steps * options.groups)
-            print(f"{seconds:.3f} s, {each:.1f} ns per cell, step and group, peak {peak / 1e6:.1f} MB")
+        events = options.cells * options.steps * options.groups
+        whole = [run("fold", study, tape) for _ in range(3)]
+        for seconds, user, peak in whole:
+            print(f"{seconds:.3f} s, {user:.3f} s of the processor, {seconds * 1e9 / events:.1f} ns per cell, step and group, peak {peak / 1e6:.1f} MB")
+        added = [run("fold", study, tape, output="/dev/full", wanted=6) for _ in range(3)]
+        for seconds, user, _ in added:
+            print(f"without the text: {seconds:.3f} s, {user:.3f} s of the processor, {seconds * 1e9 / events:.1f} ns per cell, step and group")
+        text = os.path.join(folder, "text")
+        run("fold", study, tape, output=text)
+        size = os.path.getsize(text) / 1e6
+        rest = min(run[0] for run in whole) - min(run[0] for run in added)
+        print(f"the text: {size:.1f} MB in {rest:.3f} s, {size / rest:.0f} MB/s")
 
 
 main()

@@ -40,7 +40,7 @@ def main():
         write_events(file, groups, events, ticks)
         print(f"groups {groups} events {events} ticks {ticks}")
         for _ in range(3):
-            seconds, peak = run("watch", study, file)
+            seconds, _, peak = run("watch", study, file)
             print(f"{seconds:.2f} s, peak {peak / 1e6:.1f} MB")
 
 
