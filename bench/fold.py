@@ -79,7 +79,8 @@ def main():
         run("fold", study, tape, output=text)
         size = os.path.getsize(text) / 1e6
         rest = min(run[0] for run in whole) - min(run[0] for run in added)
-        print(f"the text: {size:.1f} MB in {rest:.3f} s, {size / rest:.0f} MB/s")
+        if size >= 1:
+            print(f"the text: {size:.1f} MB in {rest:.3f} s, {size / rest:.0f} MB/s")
 
 
 main()
