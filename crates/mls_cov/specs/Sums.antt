@@ -1,17 +1,8 @@
 -- The sums of a list of rows, side by side.
-use Rattle.std.specs.Prelude.{◌≡◌, ℕ, ◌+◌, ◌*◌, ◌<◌, List, length, sum_by, slice_index}
+use Rattle.std.specs.Prelude.{◌≡◌, ℕ, ◌+◌, ◌*◌, ◌<◌, List, length, slice_index}
 use Rattle.std.specs.List.{AllByRecursion}
-
--- a sample of a row: 0 is A, 1 is B, 2 + k is C^k
-abbrev pub sample : ℕ → List ℕ → ℕ
-sample j row = slice_index row j
-
--- the sum of a column, and that of the products of two columns
-abbrev pub sum_of : ℕ → List (List ℕ) → ℕ
-sum_of j rows = sum_by (sample j) rows
-
-abbrev pub products_of : ℕ → ℕ → List (List ℕ) → ℕ
-products_of i j rows = sum_by (λ row. sample i row * sample j row) rows
+-- a sample of a row: 0 is A, 1 is B, 2 + k is C^k; the sum of a column, and that of the products of two columns
+pub use Rattle.mls_model.specs.CellSums.{sample, sum_of, products_of}
 
 -- Four sums from a place on are those of C^k: of its samples, of their squares, and of their products with A and with B.
 pub record HoldsColumn (k : ℕ) (sums : List ℕ) (rows : List (List ℕ)) : Type 0 where

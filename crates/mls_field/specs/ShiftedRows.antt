@@ -1,8 +1,8 @@
 -- Rows of shifted values.
-use Rattle.std.specs.Prelude.{ℕ, ◌+◌, ◌*◌, Bool, List, [], ◌∷◌, map, slice_index}
-use Rattle.std.specs.List.{flat_map}
+use Rattle.std.specs.Prelude.{ℕ, ◌+◌, ◌*◌, Bool, List, map, slice_index}
 use Rattle.mls_model.specs.Numbers.{below}
 use Rattle.mls_model.specs.Samples.{shifted}
+use Rattle.mls_model.specs.CellSums.{both}
 
 -- the row that n rows of samples, by row and place, have at a place
 abbrev pub shifted_row : Bool → ℕ → (ℕ → ℕ → ℕ) → ℕ → List ℕ
@@ -14,4 +14,4 @@ row_in n samples place = map (λ row. slice_index samples (place + 32 * row)) (b
 
 -- the samples A and B of all rows
 abbrev pub shifted_outputs : List (List ℕ) → List ℕ
-shifted_outputs rows = flat_map (λ row. slice_index row 0 ∷ slice_index row 1 ∷ []) rows
+shifted_outputs = both
