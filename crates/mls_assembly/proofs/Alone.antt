@@ -10,8 +10,8 @@ use Rattle.mls_model.specs.Blocks.{block, part, overlap, overlaps, width, meet, 
 use Rattle.mls_model.specs.Frames.{Piece}
 use Rattle.mls_model.specs.Completion.{Key, key_of, is_of_key, is_share, has_all_shares, is_completed}
 use Rattle.mls_base.specs.Partitions.{ArePartition}
-use Rattle.mls_base.proofs.Sharing.{bounds, in_span, in_meet, meets_partition, share_end}
-use Rattle.mls_laws.specs.Fitting.{Fits}
+use Rattle.mls_base.proofs.Spans.{bounds, in_span, in_meet, meets_partition, span_end}
+use Rattle.mls_model.specs.Fitting.{Fits}
 use Rattle.mls_assembly.specs.Shares.{Share, share_of, has_all}
 use Rattle.mls_assembly.specs.Pendings.{later_of, greatest_life, PendsAt}
 use Rattle.mls_assembly.proofs.Latest.{reaches, whole_completed}
@@ -21,7 +21,7 @@ use Rattle.mls_assembly.proofs.Storing.{Stored, with_share, stored_first}
 -- the overlaps of a rank share no cell
 pub overlaps_apart : (s : Sizes) (rank a b x : ℕ) → AreSizes s → rank < s.ranks → a < s.clients → b < s.clients → IsTrue (is_in_span (overlap s rank a) x) → IsTrue (is_in_span (overlap s rank b) x) → a ≡ b
 overlaps_apart s rank a b x sizes within a_in b_in in_a in_b =
-    let parts : ArePartition s.clients (overlap s rank) (λ y. IsTrue (is_in_span (block s rank) y)) = meets_partition s.cells s.clients (block s rank) sizes.some_clients (share_end s.cells s.ranks rank sizes.some_ranks within) in
+    let parts : ArePartition s.clients (overlap s rank) (λ y. IsTrue (is_in_span (block s rank) y)) = meets_partition s.cells s.clients (block s rank) sizes.some_clients (span_end s.cells s.ranks rank sizes.some_ranks within) in
     let one = parts.once x (parts.inside a a_in x in_a) in
     one.only a a_in in_a ∙ sym (one.only b b_in in_b)
 

@@ -4,7 +4,7 @@ use Rattle.std.proofs.Math.Nat.{mul-le-mul_right}
 use Rattle.mls_model.specs.declared.blocks.Span.{Span}
 use Rattle.mls_model.specs.Studies.{Sizes, AreSizes}
 use Rattle.mls_model.specs.Blocks.{block, part, overlap, width, is_in_span, client_of}
-use Rattle.mls_base.proofs.Sharing.{bounds, in_span, in_meet, share_found}
+use Rattle.mls_base.proofs.Spans.{bounds, in_span, in_meet, span_found}
 use Rattle.mls_laws.proofs.OneClient.{IsBlock, is_block}
 use Rattle.mls_assembly.specs.Shares.{Share, IsShare}
 use Rattle.mls_assembly.specs.Open.{OpenKey, share_in, IsOpen}
@@ -24,7 +24,7 @@ pub sample_in : (s : Sizes) (rank row cell client : ℕ) (span : Span) (o : Open
 sample_in s rank row cell client span o share sizes within is inside row_in kept found at =
     let x : ℕ = span.first + cell in
     let in_block : IsTrue (is_in_span (block s rank) (span.first + cell)) = subst (λ (b : Span). IsTrue (is_in_span (block s rank) (b.first + cell))) (sym is) (in_span (block s rank) ((block s rank).first + cell) (omega arith) (omega arith)) in
-    let in_part : IsTrue (is_in_span (part s client) (span.first + cell)) = ((share_found s.cells s.clients (span.first + cell) client sizes.some_clients).0 found).1 in
+    let in_part : IsTrue (is_in_span (part s client) (span.first + cell)) = ((span_found s.cells s.clients (span.first + cell) client sizes.some_clients).0 found).1 in
     let holds : IsTrue (is_in_span (overlap s rank client) (span.first + cell)) = (in_meet (block s rank) (part s client) (span.first + cell)).1 (in_block, in_part) in
     let b = bounds (overlap s rank client) (span.first + cell) holds in
     let low : (overlap s rank client).first ≤ span.first + cell = b.0 in

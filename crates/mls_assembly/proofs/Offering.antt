@@ -10,7 +10,7 @@ use Rattle.mls_model.specs.Studies.{Sizes, AreSizes}
 use Rattle.mls_model.specs.Blocks.{block, width}
 use Rattle.mls_model.specs.Frames.{Piece, IsPiece}
 use Rattle.mls_model.specs.Completion.{Key, key_of, is_of_key, is_completed}
-use Rattle.mls_laws.specs.Fitting.{Fits}
+use Rattle.mls_model.specs.Fitting.{Fits}
 use Rattle.mls_laws.proofs.Completing.{same_key, own_key}
 use Rattle.mls_assembly.specs.declared.assembled.Assembled.{Assembled}
 use Rattle.mls_assembly.specs.declared.assembled.Assembled.TheVariants as answers

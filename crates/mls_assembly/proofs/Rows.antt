@@ -11,8 +11,8 @@ use Rattle.mls_model.specs.Frames.{Piece}
 use Rattle.mls_model.specs.Completion.{key_of, is_share}
 use Rattle.mls_model.specs.AcceptedRows.{samples_at, share_row, row_at}
 use Rattle.mls_base.specs.Partitions.{ArePartition}
-use Rattle.mls_base.proofs.Sharing.{bounds, in_span, in_meet, shares_partition, share_found}
-use Rattle.mls_laws.specs.Fitting.{Fits}
+use Rattle.mls_base.proofs.Spans.{bounds, in_span, in_meet, spans_partition, span_found}
+use Rattle.mls_model.specs.Fitting.{Fits}
 use Rattle.mls_laws.proofs.OneClient.{IsBlock, is_block, all_more}
 use Rattle.mls_assembly.specs.Shares.{Share, share_of, share_sample, block_sample, has_all}
 use Rattle.mls_assembly.proofs.Taking.{below_at}
@@ -32,7 +32,7 @@ sends s rank x client sizes within in_part in_block =
     let b = bounds (overlap s rank client) x holds in
     record {
       within = within;
-      found = (share_found s.cells s.clients x client sizes.some_clients).1 (within, in_part);
+      found = (span_found s.cells s.clients x client sizes.some_clients).1 (within, in_part);
       holds = holds;
       some = lt-ltb 0 (width (overlap s rank client)) (omega arith);
     }
@@ -43,7 +43,7 @@ sender s rank place sizes within inside =
     let x : ℕ = (block s rank).first + place in
     let in_block : IsTrue (is_in_span (block s rank) x) = in_span (block s rank) x (omega arith) (omega arith) in
     let in_mesh : x < s.cells = omega (arith, is.within, is.some) in
-    let parts : ArePartition s.clients (part s) (λ y. y < s.cells) = shares_partition s.cells s.clients sizes.some_clients in
+    let parts : ArePartition s.clients (part s) (λ y. y < s.cells) = spans_partition s.cells s.clients sizes.some_clients in
     let one = parts.once x in_mesh in
     (one.one, sends s rank x one.one sizes one.within one.holds in_block)
 

@@ -4,7 +4,7 @@
 pub mod assembled;
 pub mod group_step;
 mod opened;
-mod part;
+mod kept_piece;
 pub mod pending;
 pub mod pending_rows;
 

@@ -4,7 +4,7 @@ ghost use Rattle.std.specs.Prelude.{◌≡◌, ◌==◌, ℕ, ◌<◌, length, s
 ghost use Rattle.std.specs.Option.{option_map};
 ghost use Rattle.mls_assembly.specs.Open.{share_in};
 
-use crate::part::Part;
+use crate::kept_piece::KeptPiece;
 use mls_base::faults::NoMemory;
 use std::alloc::Global;
 use std::marker::Model;
@@ -13,7 +13,7 @@ use std::marker::Model;
 #[derive(Drop)]
 pub(crate) struct Open {
     life: u32,
-    parts: Vec<Option<Part>>,
+    parts: Vec<Option<KeptPiece>>,
 }
 
 impl Model for Open {
@@ -31,7 +31,7 @@ impl Open {
         clients: u32,
         life: u32,
         client: u32,
-        part: Part,
+        part: KeptPiece,
     ) -> Result<Open, NoMemory>
         requires { client < clients }
         ensures life { IfOk result (λ o. o.life ≡ life) }
@@ -54,7 +54,7 @@ impl Open {
     }
 
     /// Puts a client's piece into its slot.
-    pub(crate) fn put(&mut self, client: u32, part: Part)
+    pub(crate) fn put(&mut self, client: u32, part: KeptPiece)
         requires { client < length self.old.shares }
         ensures life { self.new.life ≡ self.old.life }
         ensures slots { length self.new.shares ≡ length self.old.shares }
@@ -65,7 +65,7 @@ impl Open {
 
     /// A client's piece, where there is one.
     #[inline]
-    pub(crate) fn part(&self, client: u32) -> Option<&Part>
+    pub(crate) fn part(&self, client: u32) -> Option<&KeptPiece>
         requires { client < length self.now.shares }
         ensures { option_map (λ part. part.now) result ≡ share_in self.now client }
     {

@@ -8,7 +8,7 @@ ghost use Rattle.mls_model.specs.Blocks.{block, width};
 ghost use Rattle.mls_model.specs.Frames.{Piece};
 ghost use Rattle.mls_model.specs.Fitting.{piece_reason};
 ghost use Rattle.mls_model.specs.Completion.{Key, key_of, is_completed};
-ghost use Rattle.mls_laws.specs.Fitting.{Fits};
+ghost use Rattle.mls_model.specs.Fitting.{Fits};
 ghost use Rattle.mls_assembly.specs.Shares.{share_of, IsShare, has_all};
 ghost use Rattle.mls_assembly.specs.Open.{share_in};
 ghost use Rattle.mls_assembly.specs.Pendings.{Pends, PendsBut};
@@ -19,7 +19,7 @@ ghost use Rattle.mls_assembly.specs.Lent.{sizes_of, rank_of, shares_of};
 use crate::assembled::Assembled;
 use crate::group_step::GroupStep;
 use crate::opened::Open;
-use crate::part::Part;
+use crate::kept_piece::KeptPiece;
 use crate::pending_rows::PendingRows;
 use mls_base::faults::NoMemory;
 use mls_base::rows::Rows;
@@ -112,7 +112,7 @@ impl Pending {
     }
 
     /// Puts a client's piece beside those of its key and life.
-    fn put(&mut self, key: GroupStep, client: u32, part: Part)
+    fn put(&mut self, key: GroupStep, client: u32, part: KeptPiece)
         requires client { client < self.old.sizes.clients }
         requires fits { IsShare self.old.sizes self.old.rank client part }
         requires held { IsSome (open_of self.old (key_at key)) }
@@ -128,7 +128,7 @@ impl Pending {
     }
 
     /// Begins a life of a key with a client's piece. Pieces of an earlier life are dropped.
-    fn begin(&mut self, key: GroupStep, life: u32, client: u32, part: Part) -> Result<(), NoMemory>
+    fn begin(&mut self, key: GroupStep, life: u32, client: u32, part: KeptPiece) -> Result<(), NoMemory>
         requires client { client < self.old.sizes.clients }
         requires fits { IsShare self.old.sizes self.old.rank client part }
         ensures sizes { self.new.sizes ≡ self.old.sizes }
@@ -170,7 +170,7 @@ impl Pending {
         self.shape.valid();
         piece.valid();
         let key = key_of(piece);
-        let part = Part::of(self.alloc, piece)?;
+        let part = KeptPiece::of(self.alloc, piece)?;
         self.begin(key, piece.life(), piece.client() as u32, part)?;
         Ok(self.kept_or_complete(key))
     }
@@ -193,7 +193,7 @@ impl Pending {
         if self.has_part(key, piece.client() as u32) {
             return Ok(Assembled::Repeated);
         }
-        let part = Part::of(self.alloc, piece)?;
+        let part = KeptPiece::of(self.alloc, piece)?;
         self.put(key, piece.client() as u32, part);
         Ok(self.kept_or_complete(key))
     }

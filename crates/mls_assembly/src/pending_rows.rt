@@ -28,8 +28,8 @@ fn sender(shape: &Shape, cell: u32) -> u32
     ensures within { result < shape.now.clients }
     ensures found { client_of shape.now cell ≡ Some result }
 {
-    let share = (cell as u64 + 1) * shape.clients() as u64 - 1;
-    (share / shape.cells() as u64) as u32
+    let scaled = (cell as u64 + 1) * shape.clients() as u64 - 1;
+    (scaled / shape.cells() as u64) as u32
 }
 
 impl<'a> Rows for PendingRows<'a> {

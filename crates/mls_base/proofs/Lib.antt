@@ -3,4 +3,4 @@ mod Padding
 mod Ranges
 pub mod Told
 mod Pieces
-pub mod Sharing
+pub mod Spans

@@ -3,7 +3,7 @@
 ghost use Rattle.std.specs.Prelude.{◌≡◌, ◌<◌, ◌↔◌, ◌*◌, ◌≤◌, length, slice_index, IsSome, IfSome, IsTrue, nat_le, ◌==◌};
 ghost use Rattle.std.specs.List.{list_all};
 ghost use Rattle.mls_model.specs.Studies.{AreSizes, planes, plane_of, rises};
-ghost use Rattle.mls_model.specs.Blocks.{share, block, part, overlap, meet};
+ghost use Rattle.mls_model.specs.Blocks.{nth_span, block, part, overlap, meet};
 ghost use Rattle.mls_base.specs.Shapes.{sizes_of, AreNumbers, HaveSizes, HaveWorkers, HaveProducts, HaveThresholds};
 
 use crate::numbers::Numbers;
@@ -217,7 +217,7 @@ impl Shape {
         ensures within { result.end ≤ self.now.cells }
         ensures valid { AreSizes self.now }
     {
-        share(self.cells, self.ranks, rank)
+        nth_span(self.cells, self.ranks, rank)
     }
 
     /// The part of a client.
@@ -228,7 +228,7 @@ impl Shape {
         ensures within { result.end ≤ self.now.cells }
         ensures valid { AreSizes self.now }
     {
-        share(self.cells, self.clients, client)
+        nth_span(self.cells, self.clients, client)
     }
 
     /// The cells of a rank's block that a client sends. Where there are none, `first` and `end` are the same.
@@ -251,10 +251,10 @@ impl Shape {
 }
 
 /// Share `i` of `n` over the cells.
-fn share(cells: u32, n: u32, i: u32) -> Span
+fn nth_span(cells: u32, n: u32, i: u32) -> Span
     requires share_in { i < n }
     requires have_cells { n ≤ cells }
-    ensures value { result ≡ share cells n i }
+    ensures value { result ≡ nth_span cells n i }
     ensures some { result.first < result.end }
     ensures within { result.end ≤ cells }
 {

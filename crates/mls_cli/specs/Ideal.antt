@@ -16,8 +16,8 @@ use Rattle.mls_result.specs.declared.status.Status.{Status}
 use Rattle.mls_result.specs.declared.status.Status.TheVariants as status
 use Rattle.mls_result.specs.declared.status.FileRole.{FileRole}
 use Rattle.mls_result.specs.declared.status.FileRole.TheVariants as role
-use Rattle.mls_result.specs.declared.status.Part.{Part}
-use Rattle.mls_result.specs.declared.status.Part.TheVariants as part
+use Rattle.mls_result.specs.declared.status.Unbuilt.{Unbuilt}
+use Rattle.mls_result.specs.declared.status.Unbuilt.TheVariants as part
 use Rattle.mls_replay.specs.Calm.{is_calm}
 use Rattle.mls_cli.specs.declared.words.Words.{Words}
 use Rattle.mls_cli.specs.declared.words.Words.TheVariants as words
@@ -62,7 +62,7 @@ abbrev pub events_answer : Result (List Event) ℕ → Result (List Event) Statu
 events_answer (Ok events) = Ok events
 events_answer (Err line) = Err (status.Events line)
 
-abbrev pub not_built : {A : Type 0} → Part → Result A Status
+abbrev pub not_built : {A : Type 0} → Unbuilt → Result A Status
 not_built p = Err (status.NotBuilt p)
 
 -- a tape without saves and crashes on control lanes

@@ -6,7 +6,7 @@ ghost use Rattle.mls_study.specs.declared.fault.StudyFault.{StudyFault};
 ghost use Rattle.mls_model.specs.declared.lanes.SchedWhy.{SchedWhy};
 ghost use Rattle.mls_model.specs.declared.lanes.TapeWhy.{TapeWhy};
 ghost use Rattle.mls_result.specs.declared.status.FileRole.{FileRole};
-ghost use Rattle.mls_result.specs.declared.status.Part.{Part};
+ghost use Rattle.mls_result.specs.declared.status.Unbuilt.{Unbuilt};
 ghost use Rattle.mls_cli.specs.Words.{words_of};
 ghost use Rattle.mls_cli.specs.Ideal.{right_command, ideal};
 ghost use Rattle.mls_cli.specs.Answers.{Answers, Exactly, IsQuiet, IsRight};
@@ -16,7 +16,7 @@ use crate::fold::{run_fold, run_scheduled};
 use crate::watch::run_watch;
 use crate::words::{Words, WordsFault, read_words};
 use mls_base::outside::{Files, Keeper, Sink};
-use mls_result::{Part, Status};
+use mls_result::{Unbuilt, Status};
 use std::alloc::Global;
 
 /// Carries out a command.
@@ -62,7 +62,7 @@ fn carry_out<F: Files, O: Sink, K: Keeper + Drop>(
             return (status, keepers);
         }
         Words::Trial { .. } | Words::Bins { .. } | Words::Export { .. } | Words::Resume { .. } => {
-            let part = Part::Command;
+            let part = Unbuilt::Command;
             return (Status::NotBuilt { part }, keepers);
         }
     }
@@ -119,7 +119,7 @@ pub fn melissa<F: Files, O: Sink, K: Keeper + Drop>(
     ensures schedule { (held : Names) → F.held files.old ≡ Some held → (line : ℕ) (why : SchedWhy) → Exactly (ideal held (map string_bytes words.now)) (Status.Schedule line why) result.0 }
     ensures events { (held : Names) → F.held files.old ≡ Some held → (line : ℕ) → Exactly (ideal held (map string_bytes words.now)) (Status.Events line) result.0 }
     ensures too_long { (held : Names) → F.held files.old ≡ Some held → (file : FileRole) → Exactly (ideal held (map string_bytes words.now)) (Status.TooLong file) result.0 }
-    ensures not_built { (held : Names) → F.held files.old ≡ Some held → (part : Part) → Exactly (ideal held (map string_bytes words.now)) (Status.NotBuilt part) result.0 }
+    ensures not_built { (held : Names) → F.held files.old ≡ Some held → (part : Unbuilt) → Exactly (ideal held (map string_bytes words.now)) (Status.NotBuilt part) result.0 }
 
     // The causes of faults of the outside.
     ensures read_fault { result.0 ≡ Status.ReadFault → Rose (F.load_faults files.old) (F.load_faults files.new) }

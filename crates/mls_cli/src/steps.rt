@@ -13,7 +13,7 @@ use mls_base::faults::LoadFault;
 use mls_base::outside::Files;
 use mls_launch::{Event, EventFault, OutFault, read_events};
 use mls_replay::is_calm;
-use mls_result::{FileRole, Part, Status};
+use mls_result::{FileRole, Unbuilt, Status};
 use mls_study::{Study, StudyFault, read_study};
 use mls_tape::{SchedFault, SchedWhy, Schedule, Tape, TapeFault, TapeWhy};
 use std::alloc::Global;
@@ -46,7 +46,7 @@ pub(crate) enum Refusal {
     /// The events file is refused at a line.
     Events { line: u32 },
     /// The study or the tape asks for what is not built yet.
-    NotBuilt { part: Part },
+    NotBuilt { part: Unbuilt },
     /// A file has more bytes than it may have.
     TooLong { file: FileRole },
 }
@@ -147,7 +147,7 @@ fn if_calm(tape: Tape) -> Result<Tape, Refusal>
         return Ok(tape);
     }
     Err(Refusal::NotBuilt {
-        part: Part::Control,
+        part: Unbuilt::Control,
     })
 }
 

@@ -6,7 +6,7 @@ use crate::{BufferedSink, Words, WordsFault, melissa, read_words};
 use mls_base::memory::{MemFiles, MemKeeper, MemSink};
 use mls_base::outside::Sink;
 use mls_model::studies::{Key, Product};
-use mls_result::{FileRole, Part, Status};
+use mls_result::{FileRole, Unbuilt, Status};
 use mls_study::StudyFault;
 use mls_tape::{SchedWhy, TapeWhy};
 use std::alloc::{AllocError, Global};
@@ -702,7 +702,7 @@ fn statuses_have_texts(rt: HostRuntime) {
         (Status::Memory, "out of memory"),
         (
             Status::NotBuilt {
-                part: Part::Control,
+                part: Unbuilt::Control,
             },
             "not built yet",
         ),

@@ -2,7 +2,7 @@
 use Rattle.std.proofs.Common.{◌≡◌, ℕ, zero, suc, ◌+◌, ◌-◌, ◌*◌, ◌^◌, ◌<◌, ◌≤◌, List, arith}
 use Rattle.std.proofs.lemmas.Nat.{mul-le}
 use Rattle.std.proofs.Math.Nat.{le_of_mul-le-mul_left, mul-le-mul_left, mul-pos}
-use Rattle.mls_cov.specs.Rules.{AreSums, AreProducts, KeepsRules, HasRoom, variance_in, covariance_in}
+use Rattle.mls_cov.specs.Rules.{AreSums, AreProducts, KeepsRules, HasRoom, spread_top_in, covariance_top_in}
 use Rattle.mls_cov.specs.Steps.{HasSpace, Grew}
 use Rattle.mls_cov.proofs.Squares.{spread_more, products_more, mixed_term, below_by_squares, twice_product}
 
@@ -11,7 +11,7 @@ sums_more n x xx a small h =
     let square : a * a ≤ 65535 * a = mul-le a a 65535 a small (omega arith) in
     record { first = omega (arith, h.first); second = omega (arith, h.second); spread = spread_more n x xx a h.spread }
 
-first_products : (x xx y yy xy a b : ℕ) → AreSums 0 x xx → AreSums 0 y yy → AreProducts 0 x xx y yy xy → covariance_in (0 + 1) (x + a) (y + b) (xy + a * b) ≡ 0
+first_products : (x xx y yy xy a b : ℕ) → AreSums 0 x xx → AreSums 0 y yy → AreProducts 0 x xx y yy xy → covariance_top_in (0 + 1) (x + a) (y + b) (xy + a * b) ≡ 0
 first_products x xx y yy xy a b f s p =
     let e : x ≡ 0 = omega (arith, f.first) in
     let e' : y ≡ 0 = omega (arith, s.first) in
@@ -50,7 +50,7 @@ below_product n xy t q d e xx yy x y h same within left right some =
 pub products_below : (n x xx y yy xy : ℕ) → AreSums n x xx → AreSums n y yy → AreProducts n x xx y yy xy → xy * xy ≤ xx * yy
 products_below zero x xx y yy xy f s p = let e : xy ≡ 0 = p.none (omega arith) in rw e (omega arith)
 products_below (suc m) x xx y yy xy f s p =
-    below_product (suc m) xy (x * y) (covariance_in (suc m) x y xy) (variance_in (suc m) x xx) (variance_in (suc m) y yy) xx yy x y (omega arith) (omega arith) p.within (omega (arith, f.spread)) (omega (arith, s.spread)) (omega arith)
+    below_product (suc m) xy (x * y) (covariance_top_in (suc m) x y xy) (spread_top_in (suc m) x xx) (spread_top_in (suc m) y yy) xx yy x y (omega arith) (omega arith) p.within (omega (arith, f.spread)) (omega (arith, s.spread)) (omega arith)
 
 pub products_small : (n x xx y yy xy : ℕ) → n ≤ 65535 → AreSums n x xx → AreSums n y yy → AreProducts n x xx y yy xy → xy ≤ 281462092005375
 products_small n x xx y yy xy few f s p =
@@ -105,14 +105,14 @@ rules_more n p old new sample adds h =
     }
 
 -- ---- how large a covariance and a product of variances are
-pub variances_small : (n x xx y yy : ℕ) → n ≤ 65535 → AreSums n x xx → AreSums n y yy → variance_in n x xx * variance_in n y yy ≤ 4611686018427387903 * 4611686018427387903
+pub variances_small : (n x xx y yy : ℕ) → n ≤ 65535 → AreSums n x xx → AreSums n y yy → spread_top_in n x xx * spread_top_in n y yy ≤ 4611686018427387903 * 4611686018427387903
 variances_small n x xx y yy few f s =
     let left = variance_small n x xx few f in
     let right = variance_small n y yy few s in
-    mul-le (variance_in n x xx) (variance_in n y yy) 4611686018427387903 4611686018427387903 (omega arith) (omega arith)
+    mul-le (spread_top_in n x xx) (spread_top_in n y yy) 4611686018427387903 4611686018427387903 (omega arith) (omega arith)
 
-pub covariance_small : (n x xx y yy xy : ℕ) → n ≤ 65535 → AreSums n x xx → AreSums n y yy → AreProducts n x xx y yy xy → covariance_in n x y xy ≤ 4611686018427387903
+pub covariance_small : (n x xx y yy xy : ℕ) → n ≤ 65535 → AreSums n x xx → AreSums n y yy → AreProducts n x xx y yy xy → covariance_top_in n x y xy ≤ 4611686018427387903
 covariance_small n x xx y yy xy few f s p =
     let small = variances_small n x xx y yy few f s in
     let within = p.within in
-    below_by_squares (covariance_in n x y xy) 4611686018427387903 (omega arith)
+    below_by_squares (covariance_top_in n x y xy) 4611686018427387903 (omega arith)

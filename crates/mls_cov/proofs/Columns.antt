@@ -6,7 +6,7 @@ use Rattle.std.proofs.Math.ListN.{get_or-map as get_or-map_same}
 use Rattle.std.proofs.lemmas.List.Sums.{sum_by-cons}
 use borrow.Author.Differences.{up, down, same_in}
 use Rattle.mls_model.specs.Samples.{unshifted}
-use Rattle.mls_model.specs.Statistics.{size, entry, column, deviation, sum_pairs, covariance}
+use Rattle.mls_model.specs.Statistics.{size, entry, column, deviation, sum_pairs, covariance_top}
 use Rattle.mls_cov.specs.Sums.{sample, sum_of, products_of}
 use Rattle.mls_cov.proofs.Covariances.{form, covariance_form, covariance_whole}
 use Rattle.mls_cov.proofs.Differences.{IsDifference, natural, lower_by}
@@ -51,17 +51,17 @@ column_raised k j (row ∷ rows) h =
     joined_cells _ _ _ _ (lower-raised k (entry j row) (omega (arith, e))) (column_raised k j rows (omega (arith, e)))
 
 -- ---- the laws
-pub whole_columns : (rows : List (List ℤ)) (i j : ℕ) → let xs = column i rows in let ys = column j rows in size xs *ℤ covariance xs ys ≡ sum_pairs (λ x y. deviation xs x *ℤ deviation ys y) xs ys
+pub whole_columns : (rows : List (List ℤ)) (i j : ℕ) → let xs = column i rows in let ys = column j rows in size xs *ℤ covariance_top xs ys ≡ sum_pairs (λ x y. deviation xs x *ℤ deviation ys y) xs ys
 whole_columns rows i j =
     let k = depth i rows + depth j rows in
     let left = column_raised k i rows (omega arith) in
     let right = column_raised k j rows (omega arith) in
-    let Family : List ℤ → List ℤ → Type 0 = λ xs ys. size xs *ℤ covariance xs ys ≡ sum_pairs (λ x y. deviation xs x *ℤ deviation ys y) xs ys in
+    let Family : List ℤ → List ℤ → Type 0 = λ xs ys. size xs *ℤ covariance_top xs ys ≡ sum_pairs (λ x y. deviation xs x *ℤ deviation ys y) xs ys in
     subst (λ (xs : List ℤ). Family xs (column j rows)) left (subst (λ (ys : List ℤ). Family (map (λ row. pos (raised k i row) -ℤ pos k) rows) ys) right (covariance_whole k (λ x. pos x -ℤ pos k) (lower_by k) rows (raised k i) (raised k j)))
 
-pub one_pass : (rows : List (List ℕ)) (i j : ℕ) → covariance (column i (map (map pos) rows)) (column j (map (map pos) rows)) ≡ form (length rows) (sum_of i rows) (sum_of j rows) (products_of i j rows)
+pub one_pass : (rows : List (List ℕ)) (i j : ℕ) → covariance_top (column i (map (map pos) rows)) (column j (map (map pos) rows)) ≡ form (length rows) (sum_of i rows) (sum_of j rows) (products_of i j rows)
 one_pass rows i j = rw (column_pos i rows, column_pos j rows) (covariance_form 0 pos natural rows (sample i) (sample j))
 
-pub one_pass_values : (signed : Bool) (rows : List (List ℕ)) (i j : ℕ) → AllByRecursion (λ row. i < length row) rows → AllByRecursion (λ row. j < length row) rows → covariance (column i (map (map (unshifted signed)) rows)) (column j (map (map (unshifted signed)) rows)) ≡ form (length rows) (sum_of i rows) (sum_of j rows) (products_of i j rows)
+pub one_pass_values : (signed : Bool) (rows : List (List ℕ)) (i j : ℕ) → AllByRecursion (λ row. i < length row) rows → AllByRecursion (λ row. j < length row) rows → covariance_top (column i (map (map (unshifted signed)) rows)) (column j (map (map (unshifted signed)) rows)) ≡ form (length rows) (sum_of i rows) (sum_of j rows) (products_of i j rows)
 one_pass_values signed rows i j left right =
     rw (column_map (unshifted signed) i rows left, column_map (unshifted signed) j rows right) (covariance_form (shift_of signed) (unshifted signed) (unshifted_is signed) rows (sample i) (sample j))

@@ -5,7 +5,7 @@ use Rattle.std.specs.Int.RustNames.{int_div}
 use Rattle.std.proofs.lemmas.List.{length-map}
 use Rattle.std.proofs.lemmas.List.Sums.{sum_by-cons}
 use Rattle.mls_model.specs.Numbers.{sum_ints}
-use Rattle.mls_model.specs.Statistics.{size, total, deviation, sum_pairs, covariance}
+use Rattle.mls_model.specs.Statistics.{size, total, deviation, sum_pairs, covariance_top}
 use Rattle.mls_cov.proofs.Differences.{IsDifference, natural, minus, product, one_number, also, sum_difference, dividing}
 
 sum_of_pairs : {R : Type 0} (h : ℤ → ℤ → ℤ) (x y : R → ℤ) (rows : List R) → sum_pairs h (map x rows) (map y rows) ≡ sum_ints (λ r. h (x r) (y r)) rows
@@ -66,8 +66,8 @@ module _ {R : Type 0} (k : ℕ) (u : ℕ → ℤ) (each : (x : ℕ) → IsDiffer
       sum_of_pairs (λ x y. deviation xs x *ℤ deviation ys y) (λ r. u (f r)) (λ r. u (g r)) rows
       ∙ one_number _ _ _ _ _ _ whole times (omega (arith, products_up n c d f g rows, products_down n c d f g rows))
 
-pub covariance_form : {R : Type 0} (k : ℕ) (u : ℕ → ℤ) → ((x : ℕ) → IsDifference (u x) x k) → (rows : List R) (f g : R → ℕ) → covariance (map (λ r. u (f r)) rows) (map (λ r. u (g r)) rows) ≡ form (length rows) (sum_by f rows) (sum_by g rows) (sum_by (λ r. f r * g r) rows)
-unfolding covariance
+pub covariance_form : {R : Type 0} (k : ℕ) (u : ℕ → ℤ) → ((x : ℕ) → IsDifference (u x) x k) → (rows : List R) (f g : R → ℕ) → covariance_top (map (λ r. u (f r)) rows) (map (λ r. u (g r)) rows) ≡ form (length rows) (sum_by f rows) (sum_by g rows) (sum_by (λ r. f r * g r) rows)
+unfolding covariance_top
 covariance_form k u each [] f g = refl
 covariance_form {R} k u each (r ∷ rows) f g =
     let all : List R = r ∷ rows in
@@ -75,7 +75,7 @@ covariance_form {R} k u each (r ∷ rows) f g =
     ap (λ (z : ℤ). int_div z (size (map (λ r. u (f r)) all))) (products_are {R = R} k u each all f g)
     ∙ (ap (λ (s : ℤ). int_div (pos (length all) *ℤ value) s) (size_of {R = R} k u each all f) ∙ dividing (length all) value (omega arith))
 
-pub covariance_whole : {R : Type 0} (k : ℕ) (u : ℕ → ℤ) → ((x : ℕ) → IsDifference (u x) x k) → (rows : List R) (f g : R → ℕ) → size (map (λ r. u (f r)) rows) *ℤ covariance (map (λ r. u (f r)) rows) (map (λ r. u (g r)) rows) ≡ sum_pairs (λ x y. deviation (map (λ r. u (f r)) rows) x *ℤ deviation (map (λ r. u (g r)) rows) y) (map (λ r. u (f r)) rows) (map (λ r. u (g r)) rows)
+pub covariance_whole : {R : Type 0} (k : ℕ) (u : ℕ → ℤ) → ((x : ℕ) → IsDifference (u x) x k) → (rows : List R) (f g : R → ℕ) → size (map (λ r. u (f r)) rows) *ℤ covariance_top (map (λ r. u (f r)) rows) (map (λ r. u (g r)) rows) ≡ sum_pairs (λ x y. deviation (map (λ r. u (f r)) rows) x *ℤ deviation (map (λ r. u (g r)) rows) y) (map (λ r. u (f r)) rows) (map (λ r. u (g r)) rows)
 covariance_whole {R} k u each rows f g =
-    ap (λ (s : ℤ). s *ℤ covariance (map (λ r. u (f r)) rows) (map (λ r. u (g r)) rows)) (size_of {R = R} k u each rows f)
+    ap (λ (s : ℤ). s *ℤ covariance_top (map (λ r. u (f r)) rows) (map (λ r. u (g r)) rows)) (size_of {R = R} k u each rows f)
     ∙ (ap (λ (z : ℤ). pos (length rows) *ℤ z) (covariance_form k u each rows f g) ∙ sym (products_are {R = R} k u each rows f g))

@@ -3,8 +3,8 @@ use Rattle.std.proofs.Common.{◌≡◌, ℕ, zero, suc, ◌+◌, ◌*◌, ◌^�
 use Rattle.std.specs.List.{sum_by, AllByRecursion}
 use Rattle.std.specs.Int.RustNames.{unsigned_abs}
 use Rattle.std.proofs.lemmas.List.Sums.{sum_by-cons}
-use Rattle.mls_model.specs.Statistics.{covariance, variance, column}
-use Rattle.mls_cov.specs.Rules.{AreSums, variance_in, covariance_in}
+use Rattle.mls_model.specs.Statistics.{covariance_top, spread_top, column}
+use Rattle.mls_cov.specs.Rules.{AreSums, spread_top_in, covariance_top_in}
 use Rattle.mls_cov.proofs.Squares.{spread_more, products_more}
 use Rattle.mls_cov.proofs.Differences.{IsDifference, abs_of_difference, lower_by}
 use Rattle.mls_cov.proofs.Covariances.{form, covariance_form}
@@ -18,11 +18,11 @@ pub record AreBounded (n x xx y yy xy : ℕ) : Type 0 where
   pub none : n ≡ 0 → (x ≡ 0) × (y ≡ 0) × (xy ≡ 0)
   pub left : x * x ≤ n * xx
   pub right : y * y ≤ n * yy
-  pub within : covariance_in n x y xy * covariance_in n x y xy ≤ variance_in n x xx * variance_in n y yy
+  pub within : covariance_top_in n x y xy * covariance_top_in n x y xy ≤ spread_top_in n x xx * spread_top_in n y yy
 
-first_within : (x y xy a b d : ℕ) → (x ≡ 0) × (y ≡ 0) × (xy ≡ 0) → covariance_in (0 + 1) (x + a) (y + b) (xy + a * b) * covariance_in (0 + 1) (x + a) (y + b) (xy + a * b) ≤ d
+first_within : (x y xy a b d : ℕ) → (x ≡ 0) × (y ≡ 0) × (xy ≡ 0) → covariance_top_in (0 + 1) (x + a) (y + b) (xy + a * b) * covariance_top_in (0 + 1) (x + a) (y + b) (xy + a * b) ≤ d
 first_within x y xy a b d h =
-    let e : covariance_in (0 + 1) (x + a) (y + b) (xy + a * b) ≡ 0 = rw (h.0, h.1, h.2) (omega arith) in
+    let e : covariance_top_in (0 + 1) (x + a) (y + b) (xy + a * b) ≡ 0 = rw (h.0, h.1, h.2) (omega arith) in
     rw e (omega arith)
 
 bounded_next : (n x xx y yy xy a b : ℕ) → AreBounded n x xx y yy xy → AreBounded (n + 1) (x + a) (xx + a * a) (y + b) (yy + b * b) (xy + a * b)
@@ -51,25 +51,25 @@ bounded_all (r ∷ rows) f g =
     rw (← n, ← x, ← xx, ← y, ← yy, ← xy) (bounded_next (length rows) (sum_by f rows) _ (sum_by g rows) _ _ (f r) (g r) (bounded_all rows f g))
 
 -- the same of covariances
-pub abs_form : (n x y xy : ℕ) → unsigned_abs (form n x y xy) ≡ covariance_in n x y xy
+pub abs_form : (n x y xy : ℕ) → unsigned_abs (form n x y xy) ≡ covariance_top_in n x y xy
 abs_form n x y xy = abs_of_difference (n * xy) (x * y)
 
-pub abs_variance : (n x xx : ℕ) → x * x ≤ n * xx → unsigned_abs (form n x x xx) ≡ variance_in n x xx
+pub abs_variance : (n x xx : ℕ) → x * x ≤ n * xx → unsigned_abs (form n x x xx) ≡ spread_top_in n x xx
 abs_variance n x xx h = abs_of_difference (n * xx) (x * x) ∙ omega arith
 
 schwarz_forms : (c : ℤ) (v w : ℤ) (n x xx y yy xy : ℕ) → c ≡ form n x y xy → v ≡ form n x x xx → w ≡ form n y y yy → AreBounded n x xx y yy xy → unsigned_abs c * unsigned_abs c ≤ unsigned_abs v * unsigned_abs w
 schwarz_forms c v w n x xx y yy xy e f g h = rw (e, f, g, abs_form n x y xy, abs_variance n x xx h.left, abs_variance n y yy h.right) h.within
 
-pub schwarz_of : {R : Type 0} (k : ℕ) (u : ℕ → ℤ) → ((x : ℕ) → IsDifference (u x) x k) → (rows : List R) (f g : R → ℕ) → let xs = map (λ r. u (f r)) rows in let ys = map (λ r. u (g r)) rows in unsigned_abs (covariance xs ys) * unsigned_abs (covariance xs ys) ≤ variance xs * variance ys
+pub schwarz_of : {R : Type 0} (k : ℕ) (u : ℕ → ℤ) → ((x : ℕ) → IsDifference (u x) x k) → (rows : List R) (f g : R → ℕ) → let xs = map (λ r. u (f r)) rows in let ys = map (λ r. u (g r)) rows in unsigned_abs (covariance_top xs ys) * unsigned_abs (covariance_top xs ys) ≤ spread_top xs * spread_top ys
 schwarz_of k u each rows f g =
     schwarz_forms _ _ _ (length rows) (sum_by f rows) _ (sum_by g rows) _ _ (covariance_form k u each rows f g) (covariance_form k u each rows f f) (covariance_form k u each rows g g) (bounded_all rows f g)
 
-pub schwarz_columns : (rows : List (List ℤ)) (i j : ℕ) → unsigned_abs (covariance (column i rows) (column j rows)) * unsigned_abs (covariance (column i rows) (column j rows)) ≤ variance (column i rows) * variance (column j rows)
+pub schwarz_columns : (rows : List (List ℤ)) (i j : ℕ) → unsigned_abs (covariance_top (column i rows) (column j rows)) * unsigned_abs (covariance_top (column i rows) (column j rows)) ≤ spread_top (column i rows) * spread_top (column j rows)
 schwarz_columns rows i j =
     let k = depth i rows + depth j rows in
     let left = column_raised k i rows (omega arith) in
     let right = column_raised k j rows (omega arith) in
-    let Family : List ℤ → List ℤ → Type 0 = λ xs ys. unsigned_abs (covariance xs ys) * unsigned_abs (covariance xs ys) ≤ variance xs * variance ys in
+    let Family : List ℤ → List ℤ → Type 0 = λ xs ys. unsigned_abs (covariance_top xs ys) * unsigned_abs (covariance_top xs ys) ≤ spread_top xs * spread_top ys in
     subst (λ (xs : List ℤ). Family xs (column j rows)) left (subst (λ (ys : List ℤ). Family (map (λ row. pos (raised k i row) -ℤ pos k) rows) ys) right (schwarz_of k (λ x. pos x -ℤ pos k) (lower_by k) rows (raised k i) (raised k j)))
 
 -- ---- samples of 16 bits
@@ -84,7 +84,7 @@ sums_of_samples (r ∷ rows) f h =
 small_form : (v : ℤ) (n x xx : ℕ) → v ≡ form n x x xx → n ≤ 65535 → AreSums n x xx → unsigned_abs v < 2 ^ 62
 small_form v n x xx e few h = rw (e, abs_variance n x xx h.spread) (variance_small n x xx few h)
 
-pub small_of : {R : Type 0} (k : ℕ) (u : ℕ → ℤ) → ((x : ℕ) → IsDifference (u x) x k) → (rows : List R) (f : R → ℕ) → length rows ≤ 65535 → AllByRecursion (λ r. f r ≤ 65535) rows → variance (map (λ r. u (f r)) rows) < 2 ^ 62
+pub small_of : {R : Type 0} (k : ℕ) (u : ℕ → ℤ) → ((x : ℕ) → IsDifference (u x) x k) → (rows : List R) (f : R → ℕ) → length rows ≤ 65535 → AllByRecursion (λ r. f r ≤ 65535) rows → spread_top (map (λ r. u (f r)) rows) < 2 ^ 62
 small_of k u each rows f few h = small_form _ (length rows) (sum_by f rows) _ (covariance_form k u each rows f f) few (sums_of_samples rows f h)
 
 -- a sample is in range where all of its row are
@@ -101,5 +101,5 @@ places_in : (j : ℕ) (rows : List (List ℕ)) → AllByRecursion (λ row. (j < 
 places_in j [] h = tt
 places_in j (row ∷ rows) h = (h.0.0, places_in j rows h.1)
 
-pub small_columns : (signed : Bool) (rows : List (List ℕ)) (j : ℕ) → length rows ≤ 65535 → AllByRecursion (λ row. (j < length row) × AllByRecursion (λ x. x < 65536) row) rows → variance (column j (map (map (unshifted signed)) rows)) < 2 ^ 62
+pub small_columns : (signed : Bool) (rows : List (List ℕ)) (j : ℕ) → length rows ≤ 65535 → AllByRecursion (λ row. (j < length row) × AllByRecursion (λ x. x < 65536) row) rows → spread_top (column j (map (map (unshifted signed)) rows)) < 2 ^ 62
 small_columns signed rows j few h = rw (column_map (unshifted signed) j rows (places_in j rows h)) (small_of (shift_of signed) (unshifted signed) (unshifted_is signed) rows (sample j) few (samples_in j rows h))

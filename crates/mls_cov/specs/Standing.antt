@@ -1,5 +1,6 @@
 -- When a value of sums stands for a list of rows.
 use Rattle.std.specs.Prelude.{◌≡◌, ℕ, ◌+◌, ◌-◌, ◌*◌, List, length, slice_index, pos, ◌-ℤ◌}
+use Rattle.mls_model.specs.CellSums.{place_a, place_b, place_aa, place_bb, place_c, place_cc, place_ac, place_bc}
 use Rattle.mls_cov.specs.declared.martinez.Martinez.{Martinez}
 use Rattle.mls_cov.specs.declared.martinez.IndexParts.{IndexParts}
 use Rattle.mls_cov.specs.declared.martinez.Sum.{Sum}
@@ -34,8 +35,8 @@ pub record StandsFor (m : Martinez) (rows : List (List ℕ)) : Type 0 where
 
 -- the parts of parameter k's indices in one pass, from the sums of n rows
 pub record ArePartsOf (n k : ℕ) (sums : List ℕ) (parts : IndexParts) : Type 0 where
-  pub cov_b : parts.cov_b ≡ pos (n * slice_index sums (4 + 4 * k + 3)) -ℤ pos (slice_index sums 1 * slice_index sums (4 + 4 * k))
-  pub cov_a : parts.cov_a ≡ pos (n * slice_index sums (4 + 4 * k + 2)) -ℤ pos (slice_index sums 0 * slice_index sums (4 + 4 * k))
-  pub var_a : parts.var_a ≡ n * slice_index sums 2 - slice_index sums 0 * slice_index sums 0
-  pub var_b : parts.var_b ≡ n * slice_index sums 3 - slice_index sums 1 * slice_index sums 1
-  pub var_c : parts.var_c ≡ n * slice_index sums (4 + 4 * k + 1) - slice_index sums (4 + 4 * k) * slice_index sums (4 + 4 * k)
+  pub cov_b : parts.cov_b ≡ pos (n * slice_index sums (place_bc k)) -ℤ pos (slice_index sums place_b * slice_index sums (place_c k))
+  pub cov_a : parts.cov_a ≡ pos (n * slice_index sums (place_ac k)) -ℤ pos (slice_index sums place_a * slice_index sums (place_c k))
+  pub var_a : parts.var_a ≡ n * slice_index sums place_aa - slice_index sums place_a * slice_index sums place_a
+  pub var_b : parts.var_b ≡ n * slice_index sums place_bb - slice_index sums place_b * slice_index sums place_b
+  pub var_c : parts.var_c ≡ n * slice_index sums (place_cc k) - slice_index sums (place_c k) * slice_index sums (place_c k)

@@ -3,33 +3,33 @@
 ghost use Rattle.std.specs.Prelude.{◌≡◌, ℕ, ◌+◌, ◌*◌, ◌^◌, ◌<◌, ◌≤◌, Bool, List, [], length, map, slice_index, ℤ, pos, ◌*ℤ◌, ◌-ℤ◌, unsigned_abs};
 ghost use Rattle.std.specs.List.{AllByRecursion};
 ghost use Rattle.mls_model.specs.Samples.{unshifted};
-ghost use Rattle.mls_model.specs.Statistics.{size, column, deviation, sum_pairs, covariance, variance};
+ghost use Rattle.mls_model.specs.Statistics.{size, column, deviation, sum_pairs, covariance_top, spread_top};
 ghost use Rattle.mls_cov.specs.Rules.{KeepsRules};
 ghost use Rattle.mls_cov.specs.Sums.{sum_of, products_of, HoldsSums};
 
 /// The division in a covariance leaves no rest.
 pub fn covariance_is_whole()
-    ensures { (rows : List (List ℤ)) (i j : ℕ) → let xs = column i rows in let ys = column j rows in size xs *ℤ covariance xs ys ≡ sum_pairs (λ x y. deviation xs x *ℤ deviation ys y) xs ys }
+    ensures { (rows : List (List ℤ)) (i j : ℕ) → let xs = column i rows in let ys = column j rows in size xs *ℤ covariance_top xs ys ≡ sum_pairs (λ x y. deviation xs x *ℤ deviation ys y) xs ys }
 {}
 
 /// The covariance in one pass, from sums.
 pub fn covariance_in_one_pass()
-    ensures { (rows : List (List ℕ)) (i j : ℕ) → let values = map (map pos) rows in covariance (column i values) (column j values) ≡ pos (length rows * products_of i j rows) -ℤ pos (sum_of i rows * sum_of j rows) }
+    ensures { (rows : List (List ℕ)) (i j : ℕ) → let values = map (map pos) rows in covariance_top (column i values) (column j values) ≡ pos (length rows * products_of i j rows) -ℤ pos (sum_of i rows * sum_of j rows) }
 {}
 
 /// The covariance is the same over shifted values and over values.
 pub fn covariance_of_shifted_values()
-    ensures { (signed : Bool) (rows : List (List ℕ)) (i j : ℕ) → AllByRecursion (λ row. i < length row) rows → AllByRecursion (λ row. j < length row) rows → let values = map (map (unshifted signed)) rows in let shifted = map (map pos) rows in covariance (column i values) (column j values) ≡ covariance (column i shifted) (column j shifted) }
+    ensures { (signed : Bool) (rows : List (List ℕ)) (i j : ℕ) → AllByRecursion (λ row. i < length row) rows → AllByRecursion (λ row. j < length row) rows → let values = map (map (unshifted signed)) rows in let shifted = map (map pos) rows in covariance_top (column i values) (column j values) ≡ covariance_top (column i shifted) (column j shifted) }
 {}
 
 /// The square of a covariance is at most the product of the variances.
 pub fn covariance_is_bounded()
-    ensures { (rows : List (List ℤ)) (i j : ℕ) → let c = unsigned_abs (covariance (column i rows) (column j rows)) in c * c ≤ variance (column i rows) * variance (column j rows) }
+    ensures { (rows : List (List ℤ)) (i j : ℕ) → let c = unsigned_abs (covariance_top (column i rows) (column j rows)) in c * c ≤ spread_top (column i rows) * spread_top (column j rows) }
 {}
 
 /// The variance of at most 65,535 samples of 16 bits has at most 62 bits.
 pub fn variance_is_small()
-    ensures { (signed : Bool) (rows : List (List ℕ)) (j : ℕ) → length rows ≤ 65535 → AllByRecursion (λ row. (j < length row) × AllByRecursion (λ x. x < 65536) row) rows → variance (column j (map (map (unshifted signed)) rows)) < 2 ^ 62 }
+    ensures { (signed : Bool) (rows : List (List ℕ)) (j : ℕ) → length rows ≤ 65535 → AllByRecursion (λ row. (j < length row) × AllByRecursion (λ x. x < 65536) row) rows → spread_top (column j (map (map (unshifted signed)) rows)) < 2 ^ 62 }
 {}
 
 /// The sums of rows of samples of 16 bits keep the rules.

@@ -73,7 +73,7 @@ fn no_sums() -> [u64; SUM_COUNT]
 }
 
 // n times a sum of products less the product of two sums.
-fn covariance(count: u32, x: u64, y: u64, products: u64) -> i128
+fn covariance_top(count: u32, x: u64, y: u64, products: u64) -> i128
     requires few { count ≤ 65535 }
     requires first { x ≤ 65535 * count }
     requires second { y ≤ 65535 * count }
@@ -85,7 +85,7 @@ fn covariance(count: u32, x: u64, y: u64, products: u64) -> i128
     over as i128 - under as i128
 }
 
-fn variance(count: u32, x: u64, squares: u64) -> u128
+fn spread_top(count: u32, x: u64, squares: u64) -> u128
     requires few { count ≤ 65535 }
     requires range { AreSums count x squares }
     ensures { result ≡ count * squares - x * x }
@@ -96,7 +96,7 @@ fn variance(count: u32, x: u64, squares: u64) -> u128
 impl Martinez {
     ghost use Rattle.std.specs.Prelude.{◌≡◌, ℕ, ◌+◌, ◌*◌, ◌^◌, ◌<◌, ◌≤◌, ◌↔◌, Bool, List, [], ◌∷◌, ◌++◌, length, map, slice_index, unsigned_abs, IsSome, IfSome};
     ghost use Rattle.mls_model.specs.Samples.{unshifted};
-    ghost use Rattle.mls_model.specs.Statistics.{column, covariance, variance};
+    ghost use Rattle.mls_model.specs.Statistics.{column, covariance_top, spread_top};
     ghost use Rattle.mls_cov.specs.Sums.{HoldsSums};
     ghost use Rattle.mls_cov.specs.Rules.{KeepsRules};
     ghost use Rattle.mls_cov.specs.Standing.{count_of, parameters_of, sums_in, place_of, StandsFor, ArePartsOf};
@@ -182,11 +182,11 @@ impl Martinez {
     pub fn index(&self, k: u32) -> IndexParts
         requires { k < parameters_of self.now }
         ensures formulas { ArePartsOf (count_of self.now) k (sums_in self.now) result }
-        ensures cov_b { (signed : Bool) (rows : List (List ℕ)) → StandsFor self.now rows → let values = map (map (unshifted signed)) rows in result.cov_b ≡ covariance (column 1 values) (column (2 + k) values) }
-        ensures cov_a { (signed : Bool) (rows : List (List ℕ)) → StandsFor self.now rows → let values = map (map (unshifted signed)) rows in result.cov_a ≡ covariance (column 0 values) (column (2 + k) values) }
-        ensures var_a { (signed : Bool) (rows : List (List ℕ)) → StandsFor self.now rows → result.var_a ≡ variance (column 0 (map (map (unshifted signed)) rows)) }
-        ensures var_b { (signed : Bool) (rows : List (List ℕ)) → StandsFor self.now rows → result.var_b ≡ variance (column 1 (map (map (unshifted signed)) rows)) }
-        ensures var_c { (signed : Bool) (rows : List (List ℕ)) → StandsFor self.now rows → result.var_c ≡ variance (column (2 + k) (map (map (unshifted signed)) rows)) }
+        ensures cov_b { (signed : Bool) (rows : List (List ℕ)) → StandsFor self.now rows → let values = map (map (unshifted signed)) rows in result.cov_b ≡ covariance_top (column 1 values) (column (2 + k) values) }
+        ensures cov_a { (signed : Bool) (rows : List (List ℕ)) → StandsFor self.now rows → let values = map (map (unshifted signed)) rows in result.cov_a ≡ covariance_top (column 0 values) (column (2 + k) values) }
+        ensures var_a { (signed : Bool) (rows : List (List ℕ)) → StandsFor self.now rows → result.var_a ≡ spread_top (column 0 (map (map (unshifted signed)) rows)) }
+        ensures var_b { (signed : Bool) (rows : List (List ℕ)) → StandsFor self.now rows → result.var_b ≡ spread_top (column 1 (map (map (unshifted signed)) rows)) }
+        ensures var_c { (signed : Bool) (rows : List (List ℕ)) → StandsFor self.now rows → result.var_c ≡ spread_top (column (2 + k) (map (map (unshifted signed)) rows)) }
         ensures within_b { unsigned_abs result.cov_b * unsigned_abs result.cov_b ≤ result.var_b * result.var_c }
         ensures within_a { unsigned_abs result.cov_a * unsigned_abs result.cov_a ≤ result.var_a * result.var_c }
         ensures small_a { result.var_a < 2 ^ 62 }
@@ -196,11 +196,11 @@ impl Martinez {
         let at = 4 + 4 * k as usize;
         let (a, b, c) = (self.sums[0], self.sums[1], self.sums[at]);
         IndexParts {
-            cov_b: covariance(self.count, b, c, self.sums[at + 3]),
-            cov_a: covariance(self.count, a, c, self.sums[at + 2]),
-            var_a: variance(self.count, a, self.sums[2]),
-            var_b: variance(self.count, b, self.sums[3]),
-            var_c: variance(self.count, c, self.sums[at + 1]),
+            cov_b: covariance_top(self.count, b, c, self.sums[at + 3]),
+            cov_a: covariance_top(self.count, a, c, self.sums[at + 2]),
+            var_a: spread_top(self.count, a, self.sums[2]),
+            var_b: spread_top(self.count, b, self.sums[3]),
+            var_c: spread_top(self.count, c, self.sums[at + 1]),
         }
     }
 

@@ -2,32 +2,32 @@
 use Rattle.std.specs.Fmt.{digits}
 use Rattle.mls_model.specs.Places.{gathered, any_place, all_places}
 use Rattle.mls_model.specs.Frames.{piece_head, body, spelling, samples_in, fixed_frame, piece_in, fixed_sight, piece_sight, sized_sight, sight}
-use Rattle.mls_model.specs.Lanes.{end_at, frames_in, lane_of, lane_at, lanes_at, samples_at, lanes_of, counted, tape_of}
+use Rattle.mls_model.specs.Lanes.{end_at, frames_in, lane_of, lane_at, lanes_at, samples_byte, lane_bytes_of, with_events, tape_of}
 use Rattle.mls_model.specs.Schedules.{plain_order, plain, is_legal_order, is_legal, is_complete, schedule_text}
 use Rattle.mls_model.specs.Histories.{history}
-use Rattle.mls_model.specs.Survival.{survives, surviving}
+use Rattle.mls_model.specs.Survival.{survives, surviving, last_save, crash_after_save}
 use Rattle.mls_model.specs.Fitting.{fitting}
 use Rattle.mls_model.specs.Completion.{makes_whole, is_completed, completes}
 use Rattle.mls_model.specs.Outcomes.{piece_outcome, outcome, outcomes, tally, counts}
 use Rattle.mls_model.specs.AcceptedRows.{completions, accepted, sample_rows}
-use Rattle.mls_model.specs.Statistics.{variance_top, third_top, covariance}
+use Rattle.mls_model.specs.Statistics.{variance_top, third_top, covariance_top}
 use Rattle.mls_model.specs.Designs.{drawn, word, word_of, values, design_line, group_lines, design_text, inputs, solve}
-use Rattle.mls_model.specs.ResultText.{study_line, rank_line, rank_lines, lane_line, lane_lines, step_line, power_line, variance_line, third_line, extrema_line, exceed_words, exceed_line, millionths_words, power_lines, extrema_lines, exceed_lines, rows_of, counts_of, lines_of}
+use Rattle.mls_model.specs.ResultText.{study_line, rank_line, rank_lines, lane_line, lane_lines, step_line, power_line, variance_line, third_line, extrema_line, exceed_words, exceed_line, millionths_words, power_lines, extrema_lines, exceed_lines, lines_of}
 use Rattle.mls_model.specs.SumsText.{sums_powers, sums_extrema}
 
 -- what the bytes of a frame, a lane and a tape are
 unfoldable pub of_bytes : Unit {0}
-unfolding piece_head body spelling samples_in fixed_frame piece_in fixed_sight piece_sight sized_sight sight end_at frames_in lane_of lane_at lanes_at samples_at lanes_of counted tape_of
+unfolding piece_head body spelling samples_in fixed_frame piece_in fixed_sight piece_sight sized_sight sight end_at frames_in lane_of lane_at lanes_at samples_byte lane_bytes_of with_events tape_of
 of_bytes = tt
 
 -- what happens at a rank
 unfoldable pub of_events : Unit {0}
-unfolding gathered any_place all_places plain_order plain is_legal_order is_legal is_complete history survives surviving fitting makes_whole is_completed completes piece_outcome outcome outcomes tally counts completions accepted sample_rows rows_of counts_of
+unfolding gathered any_place all_places plain_order plain is_legal_order is_legal is_complete history survives surviving fitting makes_whole is_completed completes piece_outcome outcome outcomes tally counts completions accepted sample_rows last_save crash_after_save
 of_events = tt
 
 -- what is printed
 unfoldable pub of_texts : Unit {0}
-unfolding of_events digits schedule_text variance_top third_top covariance study_line rank_line rank_lines lane_line lane_lines step_line power_line variance_line third_line extrema_line exceed_words exceed_line millionths_words power_lines extrema_lines exceed_lines lines_of sums_powers sums_extrema
+unfolding of_events digits schedule_text variance_top third_top covariance_top study_line rank_line rank_lines lane_line lane_lines step_line power_line variance_line third_line extrema_line exceed_words exceed_line millionths_words power_lines extrema_lines exceed_lines lines_of sums_powers sums_extrema
 of_texts = tt
 
 -- what a design has

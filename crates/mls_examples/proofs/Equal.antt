@@ -7,7 +7,7 @@ use Rattle.std.proofs.Common.{refl, sym, ap, ◌∙◌, arith}
 use Rattle.std.proofs.Math.IntN.{zero-*ℤ, *ℤ-zero, suc_ℤ-*ℤ, +ℤ_comm, +ℤ_invr}
 use Rattle.std.proofs.lemmas.List.{length-replicate}
 use Rattle.mls_model.specs.Numbers.{sum_ints, square, cube, joined}
-use Rattle.mls_model.specs.Statistics.{outputs, column, entry, deviation, size, sum_pairs, variance_top, third_top, covariance}
+use Rattle.mls_model.specs.Statistics.{outputs, column, entry, deviation, size, sum_pairs, variance_top, third_top, covariance_top}
 use Rattle.mls_model.specs.declared.studies.Statistic.TheVariants.{Power, Sobol}
 use Rattle.mls_model.specs.Studies.{Study, Parameter, shows}
 use Rattle.mls_model.specs.Indices.{rho6}
@@ -57,12 +57,12 @@ pub column_of_equal : (j : ℕ) (n : ℕ) (row : List ℤ) → column j (replica
 column_of_equal j zero row = refl
 column_of_equal j (suc n) row = ap (λ ws. entry j row ∷ ws) (column_of_equal j n row)
 
-pub covariance_of_equal : (n : ℕ) (x y : ℤ) → covariance (replicate n x) (replicate n y) ≡ int_div (pos 0) (pos n)
-unfolding covariance
+pub covariance_of_equal : (n : ℕ) (x y : ℤ) → covariance_top (replicate n x) (replicate n y) ≡ int_div (pos 0) (pos n)
+unfolding covariance_top
 covariance_of_equal n x y = λ i. int_div ((pairs_of_equal (λ a b. deviation (replicate n x) a *ℤ deviation (replicate n y) b) n x y ∙ (λ j. pos n *ℤ (no_deviation n x j *ℤ no_deviation n y j)) ∙ *ℤ-zero (pos n)) i) (size_of_equal n x i)
 
-no_covariance : (j k n : ℕ) (row : List ℤ) → covariance (column j (replicate n row)) (column k (replicate n row)) ≡ int_div (pos 0) (pos n)
-no_covariance j k n row = (λ i. covariance (column_of_equal j n row i) (column_of_equal k n row i)) ∙ covariance_of_equal n (entry j row) (entry k row)
+no_covariance : (j k n : ℕ) (row : List ℤ) → covariance_top (column j (replicate n row)) (column k (replicate n row)) ≡ int_div (pos 0) (pos n)
+no_covariance j k n row = (λ i. covariance_top (column_of_equal j n row i) (column_of_equal k n row i)) ∙ covariance_of_equal n (entry j row) (entry k row)
 
 abbrev pub sobol_words : List ℕ → ℤ → ℤ → ℤ → ℤ → ℤ → List ℕ
 sobol_words name cb ca va vb vc = joined (codes "sobol " ∷ name ∷ codes " " ∷ index_words (rho6 cb (unsigned_abs vb) (unsigned_abs vc)) ∷ codes " " ∷ index_words (option_map (λ r. pos 1000000 -ℤ r) (rho6 ca (unsigned_abs va) (unsigned_abs vc))) ∷ codes " " ∷ signed_decimal cb ∷ codes " " ∷ signed_decimal ca ∷ codes " " ∷ decimal (unsigned_abs va) ∷ codes " " ∷ decimal (unsigned_abs vb) ∷ codes " " ∷ decimal (unsigned_abs vc) ∷ codes "\n" ∷ [])

@@ -4,7 +4,7 @@ use Rattle.mls_model.specs.declared.lanes.LaneKind.TheVariants.{Client, Control}
 use Rattle.mls_model.specs.Numbers.{joined}
 use Rattle.mls_model.specs.Frames.{Frame, save, crash}
 use Rattle.mls_model.specs.Lanes.{Lane}
-use Rattle.mls_model.specs.Histories.{Event}
+use Rattle.mls_model.specs.Histories.{LaneEvent}
 use Rattle.mls_examples.specs.Small.{sent, client_lane, control_lane}
 
 -- a group's piece sent twice, with these frames on a control lane
@@ -14,13 +14,13 @@ group_0 = sent 0 1 (1 ∷ 3 ∷ 3 ∷ [])
 abbrev pub twice_with : List Frame → List Lane
 twice_with frames = client_lane (group_0 ∷ group_0 ∷ []) ∷ control_lane frames ∷ []
 
-abbrev pub the_piece : Event
+abbrev pub the_piece : LaneEvent
 the_piece = record { kind = Client; frame = group_0 }
 
-abbrev pub the_save : Event
+abbrev pub the_save : LaneEvent
 the_save = record { kind = Control; frame = save }
 
-abbrev pub the_crash : Event
+abbrev pub the_crash : LaneEvent
 the_crash = record { kind = Control; frame = crash }
 
 -- the schedules, named by what they make of the two pieces, the saves and the crashes

@@ -9,3 +9,4 @@ pub mod Samples
 pub mod Studies
 pub mod Sums
 pub mod Designs
+pub mod Ranks

@@ -5,10 +5,11 @@ ghost use Rattle.mls_model.specs.declared.outcomes.Outcome.TheVariants.{Accepted
 ghost use Rattle.mls_model.specs.Numbers.{below};
 ghost use Rattle.mls_model.specs.Blocks.{block, part, overlap};
 ghost use Rattle.mls_model.specs.Outcomes.{outcomes};
-ghost use Rattle.mls_model.specs.ResultText.{result_text, rank_lines, counts_of, rows_of, survivors};
+ghost use Rattle.mls_model.specs.ResultText.{result_text, rank_lines};
 ghost use Rattle.mls_model.specs.Schedules.{plain, is_complete};
 ghost use Rattle.mls_examples.specs.Assembly.{ten_cells, cells_from, pairs_of, two_clients, two_clients_lanes, two_clients_text, first_client_first, second_client_first, two_lives_lanes, two_lives_text, sent_again_lanes, sent_again_text, late_lanes, three_ranks, twelve_lanes, telling_rows, three_rank_lines};
 ghost use Rattle.mls_examples.specs.Small.{small_study};
+ghost use Rattle.mls_examples.specs.Ranks.{counts_of, rows_of, survivors};
 
 /// Ten cells in three blocks and two parts. Rank 1 has cells from both clients.
 pub fn blocks_and_parts()

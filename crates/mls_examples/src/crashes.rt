@@ -5,10 +5,11 @@ ghost use Rattle.mls_model.specs.declared.outcomes.Outcome.TheVariants.{Accepted
 ghost use Rattle.mls_model.specs.Frames.{save, crash};
 ghost use Rattle.mls_model.specs.Histories.{history};
 ghost use Rattle.mls_model.specs.Outcomes.{outcomes};
-ghost use Rattle.mls_model.specs.ResultText.{result_text, survivors};
+ghost use Rattle.mls_model.specs.ResultText.{result_text};
 ghost use Rattle.mls_model.specs.Schedules.{is_legal, is_complete, schedule_text};
 ghost use Rattle.mls_examples.specs.Small.{small_study};
 ghost use Rattle.mls_examples.specs.Crashes.{twice_with, the_piece, the_save, the_crash, sent_saved_lost_sent, sent_lost, sent_lost_sent, saved_sent_lost_lost_sent, replayed_text, lost_text, sent_anew_text, crashed_twice_text};
+ghost use Rattle.mls_examples.specs.Ranks.{survivors};
 
 /// A piece, a save, a crash and the piece again: the first piece was saved, so the second is a replay.
 pub fn save_crash_replay()

@@ -4,10 +4,11 @@ ghost use Rattle.std.specs.Prelude.{◌≡◌, List, [], ◌∷◌};
 ghost use Rattle.mls_model.specs.declared.outcomes.Outcome.TheVariants.{Accepted, Foreign};
 ghost use Rattle.mls_model.specs.declared.outcomes.Reason.TheVariants as reason;
 ghost use Rattle.mls_model.specs.Outcomes.{outcomes};
-ghost use Rattle.mls_model.specs.ResultText.{result_text, survivors};
+ghost use Rattle.mls_model.specs.ResultText.{result_text};
 ghost use Rattle.mls_model.specs.Schedules.{plain};
 ghost use Rattle.mls_examples.specs.Small.{small_study};
 ghost use Rattle.mls_examples.specs.Fields.{two_fields, two_fields_lanes, two_fields_text, one_field_text};
+ghost use Rattle.mls_examples.specs.Ranks.{survivors};
 
 /// Each field has its own step line and its own groups.
 pub fn two_named_fields()

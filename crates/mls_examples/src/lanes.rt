@@ -10,10 +10,11 @@ ghost use Rattle.mls_model.specs.Numbers.{below, joined};
 ghost use Rattle.mls_model.specs.Frames.{hello, welcome, refuse, piece, spelling, sight, whole, more};
 ghost use Rattle.mls_model.specs.Lanes.{lane_of, tape_of, refused};
 ghost use Rattle.mls_model.specs.Outcomes.{outcomes};
-ghost use Rattle.mls_model.specs.ResultText.{result_text, survivors};
+ghost use Rattle.mls_model.specs.ResultText.{result_text};
 ghost use Rattle.mls_model.specs.Schedules.{plain};
 ghost use Rattle.mls_examples.specs.Small.{small_study, sent, client_lane};
 ghost use Rattle.mls_examples.specs.Lanes.{piece_0_bytes, no_lane_tape, tape_with, cut_bytes, ended, no_event, cut_text, bad_kind_text, foreign_lanes, foreign_text, empty_piece, empty_piece_bytes, huge_piece_bytes, empty_piece_text, group_frames, wrong_kinds, faulty_lanes};
+ghost use Rattle.mls_examples.specs.Ranks.{survivors};
 
 /// A piece of three samples has 35 bytes. Each proper prefix of them is too little to tell.
 pub fn piece_of_three_samples()

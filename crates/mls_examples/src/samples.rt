@@ -3,10 +3,11 @@
 ghost use Rattle.std.specs.Prelude.{◌≡◌, List, [], ◌∷◌, ℤ, pos, negsuc, Result, Ok, Err, true, false};
 ghost use Rattle.mls_model.specs.declared.lanes.TapeWhy.TheVariants as why;
 ghost use Rattle.mls_model.specs.Lanes.{tape_of, refused};
-ghost use Rattle.mls_model.specs.ResultText.{result_text, rows_of};
+ghost use Rattle.mls_model.specs.ResultText.{result_text};
 ghost use Rattle.mls_model.specs.Schedules.{plain};
 ghost use Rattle.mls_examples.specs.Lanes.{two_groups_tape};
 ghost use Rattle.mls_examples.specs.Samples.{signed_study, signed_tape, signed_lanes, signed_text};
+ghost use Rattle.mls_examples.specs.Ranks.{rows_of};
 
 /// Samples below 0: the tape's 88 bytes, the values of the cell's rows, and the whole text.
 pub fn signed_samples()

@@ -2,12 +2,13 @@
 
 ghost use Rattle.std.specs.Prelude.{◌≡◌, List, [], ◌∷◌, pos, negsuc, Result, Ok, false};
 ghost use Rattle.mls_model.specs.Lanes.{tape_of};
-ghost use Rattle.mls_model.specs.ResultText.{result_text, rows_of, cell_text};
+ghost use Rattle.mls_model.specs.ResultText.{result_text, cell_text};
 ghost use Rattle.mls_model.specs.Schedules.{plain};
 ghost use Rattle.mls_examples.specs.Small.{small_study};
 ghost use Rattle.mls_examples.specs.Statistics.{two_groups_lanes, two_groups_text, all_shown, all_shown_text, power_alone, power_alone_text, replay_lanes, replay_text, no_lane_text, one_group_lanes, one_group_text, three_groups, three_groups_lanes, three_groups_text, extrema_alone, extrema_alone_text};
 ghost use Rattle.mls_examples.specs.Lanes.{two_groups_tape, no_lane_tape};
 ghost use Rattle.mls_examples.specs.Largest.{most_groups, most_signed_groups, equal_rows, largest_cell, least_cell};
+ghost use Rattle.mls_examples.specs.Ranks.{rows_of};
 
 /// Two groups on one lane: the tape's 87 bytes, the rows of the cell, and the whole text.
 pub fn two_groups()

@@ -103,7 +103,7 @@ impl Field {
     ghost use Rattle.mls_field.specs.ShiftedRows.{shifted_outputs};
     ghost use Rattle.mls_field.specs.Kept.{sums_at, HasPowers, HasEnds, HasNumbers, HasProducts, HasValuePowers};
     ghost use Rattle.mls_model.specs.CellSums.{sums_of};
-    ghost use Rattle.mls_model.specs.SumsText.{height, variance_of, third_of};
+    ghost use Rattle.mls_model.specs.SumsText.{height, variance_top_of, third_top_of};
 
     /// How many rows were added to a plane.
     pub fn rows(&self, step: u32) -> u32
@@ -197,7 +197,7 @@ impl Field {
     pub fn variance_top(&self, step: u32, cell: u32) -> i128
         requires step_in { step < planes (shape_of self.now) }
         requires cell_in { cell < width (block (shape_of self.now) (rank_of self.now)) }
-        ensures kept { result ≡ variance_of (sums_at self.now step cell) }
+        ensures kept { result ≡ variance_top_of (sums_at self.now step cell) }
         ensures values { (t : Table) → StandsFor self.now t → result ≡ variance_top (outputs (map (map (unshifted (shape_of self.now).signed)) (t step cell))) }
     {
         self.power(step, cell).variance_top()
@@ -207,7 +207,7 @@ impl Field {
     pub fn third_top(&self, step: u32, cell: u32) -> i128
         requires step_in { step < planes (shape_of self.now) }
         requires cell_in { cell < width (block (shape_of self.now) (rank_of self.now)) }
-        ensures kept { result ≡ third_of (sums_at self.now step cell) }
+        ensures kept { result ≡ third_top_of (sums_at self.now step cell) }
         ensures values { (t : Table) → StandsFor self.now t → result ≡ third_top (outputs (map (map (unshifted (shape_of self.now).signed)) (t step cell))) }
     {
         self.power(step, cell).third_top()

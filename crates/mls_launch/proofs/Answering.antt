@@ -3,8 +3,8 @@ use Rattle.std.proofs.Common.{◌≡◌, ℕ, zero, suc, ◌+◌, ◌-◌, ◌<�
 use Rattle.std.specs.Prelude.{cond, not, ◌&&◌, ◌||◌, ◌==◌}
 use Rattle.mls_model.specs.declared.launcher.Action.{Action}
 use Rattle.mls_model.specs.declared.launcher.Action.TheVariants.{Start, Restart, GiveUp, RestartRank}
-use Rattle.mls_launch.specs.declared.rows.Row.{Row}
-use Rattle.mls_launch.specs.declared.rows.Row.TheVariants.{Running, GivenUp}
+use Rattle.mls_launch.specs.declared.rows.GroupState.{GroupState}
+use Rattle.mls_launch.specs.declared.rows.GroupState.TheVariants.{Running, GivenUp}
 use Rattle.mls_launch.specs.Safety.{lives_begun}
 use Rattle.mls_launch.specs.Rows.{is_due, answer_for, stays_on, is_waiting}
 use Rattle.mls_launch.proofs.Facts.{Facts, run_facts, wait_facts, fact_did}
@@ -119,7 +119,7 @@ started_facts lives time g f o w =
     ap (fact_did g time (Start g 1)) is.1 ∙ started_is time g is.0
 
 -- what an action makes of a group's row
-abbrev pub row_did : ℕ → ℕ → Action → Row → Row
+abbrev pub row_did : ℕ → ℕ → Action → GroupState → GroupState
 row_did g time (Start group life) row = cond (group == g) (Running life time) row
 row_did g time (Restart group life) row = cond (group == g) (Running life time) row
 row_did g time (GiveUp group) row = cond (group == g) GivenUp row

@@ -9,8 +9,8 @@ use Rattle.std.specs.Prelude.{cond}
 use Rattle.mls_model.specs.Numbers.{below}
 use Rattle.mls_model.specs.declared.launcher.Action.{Action}
 use Rattle.mls_model.specs.declared.launcher.Action.TheVariants.{Start, RestartRank}
-use Rattle.mls_launch.specs.declared.rows.Row.{Row}
-use Rattle.mls_launch.specs.declared.rows.Row.TheVariants.{Waiting}
+use Rattle.mls_launch.specs.declared.rows.GroupState.{GroupState}
+use Rattle.mls_launch.specs.declared.rows.GroupState.TheVariants.{Waiting}
 use Rattle.mls_launch.specs.Rows.{chosen, ranks_due, groups_due, staying, starts_due, is_due, answer_for, stays_on, is_waiting}
 
 pub chosen_suc : (p : ℕ → Bool) (k : ℕ) → chosen p (suc k) ≡ chosen p k ++ cond (p k) (k ∷ []) []
@@ -38,34 +38,34 @@ pub ranks_due_none : (silence time : ℕ) (lasts : List ℕ) → ranks_due silen
 unfolding ranks_due chosen
 ranks_due_none silence time lasts = refl
 
-pub groups_due_true : (silence lives time : ℕ) (rows : List Row) (k : ℕ) (row : Row) → row ≡ get_or rows k Waiting → is_due silence time row ≡ true → groups_due silence lives time rows (k + 1) ≡ groups_due silence lives time rows k ++ answer_for lives k row ∷ []
+pub groups_due_true : (silence lives time : ℕ) (rows : List GroupState) (k : ℕ) (row : GroupState) → row ≡ get_or rows k Waiting → is_due silence time row ≡ true → groups_due silence lives time rows (k + 1) ≡ groups_due silence lives time rows k ++ answer_for lives k row ∷ []
 unfolding groups_due
 groups_due_true silence lives time rows k row here h =
     ap (map (λ g. answer_for lives g (get_or rows g Waiting))) (chosen_true (λ g. is_due silence time (get_or rows g Waiting)) k (ap (is_due silence time) (sym here) ∙ h))
     ∙ map-append (λ g. answer_for lives g (get_or rows g Waiting)) (chosen (λ g. is_due silence time (get_or rows g Waiting)) k) (k ∷ [])
     ∙ ap (λ r. map (λ g. answer_for lives g (get_or rows g Waiting)) (chosen (λ g. is_due silence time (get_or rows g Waiting)) k) ++ answer_for lives k r ∷ []) (sym here)
 
-pub groups_due_false : (silence lives time : ℕ) (rows : List Row) (k : ℕ) (row : Row) → row ≡ get_or rows k Waiting → is_due silence time row ≡ false → groups_due silence lives time rows (k + 1) ≡ groups_due silence lives time rows k
+pub groups_due_false : (silence lives time : ℕ) (rows : List GroupState) (k : ℕ) (row : GroupState) → row ≡ get_or rows k Waiting → is_due silence time row ≡ false → groups_due silence lives time rows (k + 1) ≡ groups_due silence lives time rows k
 unfolding groups_due
 groups_due_false silence lives time rows k row here h =
     ap (map (λ g. answer_for lives g (get_or rows g Waiting))) (chosen_false (λ g. is_due silence time (get_or rows g Waiting)) k (ap (is_due silence time) (sym here) ∙ h))
 
-pub groups_due_none : (silence lives time : ℕ) (rows : List Row) → groups_due silence lives time rows 0 ≡ []
+pub groups_due_none : (silence lives time : ℕ) (rows : List GroupState) → groups_due silence lives time rows 0 ≡ []
 unfolding groups_due chosen
 groups_due_none silence lives time rows = refl
 
-pub staying_true : (silence lives time : ℕ) (rows : List Row) (k : ℕ) (row : Row) → row ≡ get_or rows k Waiting → stays_on silence lives time row ≡ true → staying silence lives time rows (k + 1) ≡ staying silence lives time rows k + 1
+pub staying_true : (silence lives time : ℕ) (rows : List GroupState) (k : ℕ) (row : GroupState) → row ≡ get_or rows k Waiting → stays_on silence lives time row ≡ true → staying silence lives time rows (k + 1) ≡ staying silence lives time rows k + 1
 unfolding staying
 staying_true silence lives time rows k row here h =
     ap length (chosen_true (λ g. stays_on silence lives time (get_or rows g Waiting)) k (ap (stays_on silence lives time) (sym here) ∙ h))
     ∙ length-append (chosen (λ g. stays_on silence lives time (get_or rows g Waiting)) k) (k ∷ [])
 
-pub staying_false : (silence lives time : ℕ) (rows : List Row) (k : ℕ) (row : Row) → row ≡ get_or rows k Waiting → stays_on silence lives time row ≡ false → staying silence lives time rows (k + 1) ≡ staying silence lives time rows k
+pub staying_false : (silence lives time : ℕ) (rows : List GroupState) (k : ℕ) (row : GroupState) → row ≡ get_or rows k Waiting → stays_on silence lives time row ≡ false → staying silence lives time rows (k + 1) ≡ staying silence lives time rows k
 unfolding staying
 staying_false silence lives time rows k row here h =
     ap length (chosen_false (λ g. stays_on silence lives time (get_or rows g Waiting)) k (ap (stays_on silence lives time) (sym here) ∙ h))
 
-pub staying_none : (silence lives time : ℕ) (rows : List Row) → staying silence lives time rows 0 ≡ 0
+pub staying_none : (silence lives time : ℕ) (rows : List GroupState) → staying silence lives time rows 0 ≡ 0
 unfolding staying chosen
 staying_none silence lives time rows = refl
 
@@ -77,7 +77,7 @@ take_room room xs x h =
 take_full : {A : Type 0} (room : ℕ) (xs : List A) (x : A) → room ≤ length (take room xs) → take room (xs ++ x ∷ []) ≡ take room xs
 take_full room xs x h = take-append-le room xs (x ∷ []) (omega (arith, length-take room xs))
 
-pub starts_due_true : (room : ℕ) (rows : List Row) (k : ℕ) (row : Row) → row ≡ get_or rows k Waiting → is_waiting row ≡ true → length (starts_due room rows k) < room → starts_due room rows (k + 1) ≡ starts_due room rows k ++ Start k 1 ∷ []
+pub starts_due_true : (room : ℕ) (rows : List GroupState) (k : ℕ) (row : GroupState) → row ≡ get_or rows k Waiting → is_waiting row ≡ true → length (starts_due room rows k) < room → starts_due room rows (k + 1) ≡ starts_due room rows k ++ Start k 1 ∷ []
 unfolding starts_due
 starts_due_true room rows k row here h free =
     let free' : length (take room (chosen (λ g. is_waiting (get_or rows g Waiting)) k)) < room = rw length-map at free in
@@ -85,7 +85,7 @@ starts_due_true room rows k row here h free =
     ∙ ap (map (λ g. Start g 1)) (take_room room (chosen (λ g. is_waiting (get_or rows g Waiting)) k) k free')
     ∙ map-append (λ g. Start g 1) (take room (chosen (λ g. is_waiting (get_or rows g Waiting)) k)) (k ∷ [])
 
-pub starts_due_full : (room : ℕ) (rows : List Row) (k : ℕ) → room ≤ length (starts_due room rows k) → starts_due room rows (k + 1) ≡ starts_due room rows k
+pub starts_due_full : (room : ℕ) (rows : List GroupState) (k : ℕ) → room ≤ length (starts_due room rows k) → starts_due room rows (k + 1) ≡ starts_due room rows k
 unfolding starts_due
 starts_due_full room rows k full =
     let full' : room ≤ length (take room (chosen (λ g. is_waiting (get_or rows g Waiting)) k)) = rw length-map at full in
@@ -95,12 +95,12 @@ starts_due_full room rows k full =
       | inr f ↦ ap (λ gs. map (λ g. Start g 1) (take room gs)) (chosen_false (λ g. is_waiting (get_or rows g Waiting)) k f)
     ]
 
-pub starts_due_false : (room : ℕ) (rows : List Row) (k : ℕ) (row : Row) → row ≡ get_or rows k Waiting → is_waiting row ≡ false → starts_due room rows (k + 1) ≡ starts_due room rows k
+pub starts_due_false : (room : ℕ) (rows : List GroupState) (k : ℕ) (row : GroupState) → row ≡ get_or rows k Waiting → is_waiting row ≡ false → starts_due room rows (k + 1) ≡ starts_due room rows k
 unfolding starts_due
 starts_due_false room rows k row here h =
     ap (λ gs. map (λ g. Start g 1) (take room gs)) (chosen_false (λ g. is_waiting (get_or rows g Waiting)) k (ap is_waiting (sym here) ∙ h))
 
-pub starts_due_none : (room : ℕ) (rows : List Row) → starts_due room rows 0 ≡ []
+pub starts_due_none : (room : ℕ) (rows : List GroupState) → starts_due room rows 0 ≡ []
 unfolding starts_due chosen
 starts_due_none room rows = ap (map (λ g. Start g 1)) (take-nil room)
 
@@ -117,17 +117,17 @@ pub same_due : {A : Type 0} (start items xs ys : List A) → items ≡ start ++ 
 same_due start items xs ys so_far same = so_far ∙ ap (λ l. start ++ l) (sym same)
 
 -- The waiting groups below k have been looked at, with so many running before and now.
-pub record Started (slots before : ℕ) (rows : List Row) (start : List Action) (k : ℕ) (items : List Action) (now : ℕ) : Type 0 where
+pub record Started (slots before : ℕ) (rows : List GroupState) (start : List Action) (k : ℕ) (items : List Action) (now : ℕ) : Type 0 where
   pub done : items ≡ start ++ starts_due (slots - before) rows k
   pub running : now ≡ before + length (starts_due (slots - before) rows k)
 
-pub started_none : (slots before : ℕ) (rows : List Row) (start : List Action) → Started slots before rows start 0 start before
+pub started_none : (slots before : ℕ) (rows : List GroupState) (start : List Action) → Started slots before rows start 0 start before
 started_none slots before rows start = record {
   done = none_due start (starts_due (slots - before) rows 0) (starts_due_none (slots - before) rows);
   running = omega (arith, ap length (starts_due_none (slots - before) rows));
 }
 
-pub started_one : (slots before : ℕ) (rows : List Row) (start : List Action) (k : ℕ) (items items' : List Action) (now now' : ℕ) → Started slots before rows start k items now → is_waiting (get_or rows k Waiting) ≡ true → now < slots → items' ≡ items ++ Start k 1 ∷ [] → now' ≡ now + 1 → Started slots before rows start (k + 1) items' now'
+pub started_one : (slots before : ℕ) (rows : List GroupState) (start : List Action) (k : ℕ) (items items' : List Action) (now now' : ℕ) → Started slots before rows start k items now → is_waiting (get_or rows k Waiting) ≡ true → now < slots → items' ≡ items ++ Start k 1 ∷ [] → now' ≡ now + 1 → Started slots before rows start (k + 1) items' now'
 started_one slots before rows start k items items' now now' s waiting free pushed counted =
     let more : starts_due (slots - before) rows (k + 1) ≡ starts_due (slots - before) rows k ++ Start k 1 ∷ [] =
     starts_due_true (slots - before) rows k (get_or rows k Waiting) refl waiting (omega (arith, s.running)) in
@@ -136,7 +136,7 @@ started_one slots before rows start k items items' now now' s waiting free pushe
       running = omega (arith, s.running, ap length more, length-append (starts_due (slots - before) rows k) (Start k 1 ∷ []));
     }
 
-pub started_same : (slots before : ℕ) (rows : List Row) (start : List Action) (k : ℕ) (items : List Action) (now : ℕ) → Started slots before rows start k items now → (is_waiting (get_or rows k Waiting) ≡ false) ⊎ (slots ≤ now) → Started slots before rows start (k + 1) items now
+pub started_same : (slots before : ℕ) (rows : List GroupState) (start : List Action) (k : ℕ) (items : List Action) (now : ℕ) → Started slots before rows start k items now → (is_waiting (get_or rows k Waiting) ≡ false) ⊎ (slots ≤ now) → Started slots before rows start (k + 1) items now
 started_same slots before rows start k items now s why =
     let same : starts_due (slots - before) rows (k + 1) ≡ starts_due (slots - before) rows k =
     elim why [

@@ -7,7 +7,7 @@ use Rattle.std.proofs.lemmas.List.Sums.{length-filter}
 use Rattle.mls_model.specs.Numbers.{below}
 use Rattle.mls_model.specs.Studies.{Sizes, AreSizes}
 use Rattle.mls_model.specs.declared.launcher.Event.{Event}
-use Rattle.mls_launch.specs.declared.rows.Row.{Row}
+use Rattle.mls_launch.specs.declared.rows.GroupState.{GroupState}
 use Rattle.mls_launch.specs.declared.totals.Totals.{Totals}
 use Rattle.mls_model.specs.Pasts.{Entry, runs, waits, is_finished, is_given_up}
 use Rattle.mls_model.specs.Launcher.{past_of}
@@ -21,14 +21,14 @@ use Rattle.mls_launch.proofs.Sound.{Sound}
 use Rattle.mls_launch.proofs.Facts.{filter_yes, filter_no}
 use Rattle.mls_launch.proofs.Safe.{sound_of}
 
-filter_made : (test : Row → Bool) (f : ℕ → Row) (ks : List ℕ) → length (filter test (map f ks)) ≡ length (filter (λ k. test (f k)) ks)
+filter_made : (test : GroupState → Bool) (f : ℕ → GroupState) (ks : List ℕ) → length (filter test (map f ks)) ≡ length (filter (λ k. test (f k)) ks)
 filter_made test f [] = refl
 filter_made test f (k ∷ ks) = elim (cases_Bool (test (f k))) [
   | inl t ↦ ap length (filter_yes test (f k) (map f ks) t) ∙ ap (λ n. suc n) (filter_made test f ks) ∙ sym (ap length (filter_yes (λ q. test (f q)) k ks t))
   | inr n ↦ ap length (filter_no test (f k) (map f ks) n) ∙ filter_made test f ks ∙ sym (ap length (filter_no (λ q. test (f q)) k ks n))
 ]
 
-counted : (s : Sizes) (past : List Entry) (rows : List Row) (test : Row → Bool) (own : ℕ → Bool) → rows ≡ map (λ g. row_of g past) (below s.groups) → ((g : ℕ) → test (row_of g past) ≡ own g) → count_by test rows ≡ group_count s own
+counted : (s : Sizes) (past : List Entry) (rows : List GroupState) (test : GroupState → Bool) (own : ℕ → Bool) → rows ≡ map (λ g. row_of g past) (below s.groups) → ((g : ℕ) → test (row_of g past) ≡ own g) → count_by test rows ≡ group_count s own
 unfolding group_count
 counted s past rows test own are same =
     sym (length-filter test rows)

@@ -2,8 +2,8 @@
 use Rattle.std.proofs.Common.{◌≡◌, ℕ, List, [], replicate, refl, sym, ap, ◌∙◌, subst}
 use Rattle.std.proofs.lemmas.List.{length-replicate, get_or-replicate}
 use Rattle.mls_model.specs.Studies.{Sizes}
-use Rattle.mls_launch.specs.declared.rows.Row.{Row}
-use Rattle.mls_launch.specs.declared.rows.Row.TheVariants.{Waiting}
+use Rattle.mls_launch.specs.declared.rows.GroupState.{GroupState}
+use Rattle.mls_launch.specs.declared.rows.GroupState.TheVariants.{Waiting}
 use Rattle.mls_model.specs.Pasts.{time_of, has_done, is_finished, rank_last}
 use Rattle.mls_model.specs.Launcher.{past_after}
 use Rattle.mls_launch.specs.Rows.{row_of, StandsFor}
@@ -17,8 +17,8 @@ made s = record {
   rows = is_made (replicate s.groups Waiting) (λ g. Waiting) s.groups Waiting (length-replicate s.groups Waiting) (λ k h. get_or-replicate s.groups k Waiting Waiting h);
 }
 
-pub made_of : (s : Sizes) (ranks groups : ℕ) (lasts : List ℕ) (rows : List Row) → ranks ≡ s.ranks → groups ≡ s.groups → lasts ≡ replicate ranks 0 → rows ≡ replicate groups Waiting → StandsFor (record { sizes = s; time = 0; lasts = lasts; rows = rows }) []
+pub made_of : (s : Sizes) (ranks groups : ℕ) (lasts : List ℕ) (rows : List GroupState) → ranks ≡ s.ranks → groups ≡ s.groups → lasts ≡ replicate ranks 0 → rows ≡ replicate groups Waiting → StandsFor (record { sizes = s; time = 0; lasts = lasts; rows = rows }) []
 made_of s ranks groups lasts rows a b l r =
-    let P : List ℕ → List Row → Type 0 = λ x y. StandsFor (record { sizes = s; time = 0; lasts = x; rows = y }) [] in
+    let P : List ℕ → List GroupState → Type 0 = λ x y. StandsFor (record { sizes = s; time = 0; lasts = x; rows = y }) [] in
     let Q : List ℕ → Type 0 = λ x. P x rows in
     subst Q (sym (l ∙ ap (λ n. replicate n 0) a)) (subst (P (replicate s.ranks 0)) (sym (r ∙ ap (λ n. replicate n Waiting) b)) (made s))

@@ -5,8 +5,8 @@ use Rattle.mls_model.specs.declared.launcher.Event.{Event}
 use Rattle.mls_model.specs.declared.launcher.Event.TheVariants.{Tick, Beat, Done, RankBeat}
 use Rattle.mls_model.specs.declared.launcher.Action.{Action}
 use Rattle.mls_model.specs.declared.launcher.Action.TheVariants.{Restart, GiveUp}
-use Rattle.mls_launch.specs.declared.rows.Row.{Row}
-use Rattle.mls_launch.specs.declared.rows.Row.TheVariants.{Waiting, Running, Finished, GivenUp}
+use Rattle.mls_launch.specs.declared.rows.GroupState.{GroupState}
+use Rattle.mls_launch.specs.declared.rows.GroupState.TheVariants.{Waiting, Running, Finished, GivenUp}
 use Rattle.mls_launch.specs.Safety.{lives_begun}
 use Rattle.mls_launch.specs.Rows.{row_beat, row_done}
 use Rattle.mls_launch.proofs.Facts.{Facts, run_facts, wait_facts, fact_did, fact_came}
@@ -40,7 +40,7 @@ pub record Ordered (lives g : ℕ) (f : Facts) : Type 0 where
   pub is : f ≡ facts_in g stage
   pub lives_are : HasLives lives stage
 
-abbrev pub row_facts : Facts → Row
+abbrev pub row_facts : Facts → GroupState
 row_facts f = cond f.finished Finished (cond f.given GivenUp (cond f.started (Running f.life f.last) Waiting))
 
 -- what an event makes of a stage
@@ -119,7 +119,7 @@ ordered_came lives g time e f o = record {
 }
 
 -- a row after an event
-abbrev pub row_came : ℕ → ℕ → Event → Row → Row
+abbrev pub row_came : ℕ → ℕ → Event → GroupState → GroupState
 row_came g time (Beat group life now) row = cond (group == g) (row_beat life time row) row
 row_came g time (Done group life now) row = cond (group == g) (row_done life row) row
 row_came g time (Tick now) row = row
@@ -130,7 +130,7 @@ beat_row own last time true true = refl
 beat_row own last time true false = refl
 beat_row own last time false c = refl
 
-same_either : (b : Bool) (row : Row) → row ≡ cond b row row
+same_either : (b : Bool) (row : GroupState) → row ≡ cond b row row
 same_either true row = refl
 same_either false row = refl
 

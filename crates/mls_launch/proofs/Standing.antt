@@ -10,8 +10,8 @@ use Rattle.mls_model.specs.declared.launcher.Event.{Event}
 use Rattle.mls_model.specs.declared.launcher.Event.TheVariants.{Tick, Beat, Done, RankBeat}
 use Rattle.mls_model.specs.declared.launcher.Action.{Action}
 use Rattle.mls_model.specs.declared.launcher.Action.TheVariants.{Start, Restart, GiveUp, RestartRank}
-use Rattle.mls_launch.specs.declared.rows.Row.{Row}
-use Rattle.mls_launch.specs.declared.rows.Row.TheVariants.{Waiting, Running, GivenUp}
+use Rattle.mls_launch.specs.declared.rows.GroupState.{GroupState}
+use Rattle.mls_launch.specs.declared.rows.GroupState.TheVariants.{Waiting, Running, GivenUp}
 use Rattle.mls_model.specs.Pasts.{Entry, came, now_of, time_of, is_of, runs, waits, last_of, is_rank_beat, is_rank_restart, rank_last}
 use Rattle.mls_model.specs.Launcher.{with_actions, is_silent, answer_to, rank_restarts, group_answers, running, starts, answers, tick_actions, is_tick, actions_at, past_with, past_of}
 use Rattle.mls_launch.specs.Rows.{row_of, Table, StandsFor, row_beat, row_done, is_due, answer_for, stays_on, is_waiting, chosen, ranks_due, groups_due, staying, starts_due, due, lasts_with, rows_with, lasts_after, rows_after, lasts_heard, rows_heard, decided, settled, stepped}
@@ -24,7 +24,7 @@ use Rattle.mls_launch.proofs.Sound.{Sound, sound_none, sound_came, sound_after, 
 use Rattle.mls_launch.proofs.RowsAfter.{rows_after_append}
 use Rattle.mls_launch.proofs.Lookups.{length_made, get_made, is_made, get_set, get_change}
 
-pub record Kept (s : Sizes) (time : ℕ) (lasts : List ℕ) (rows : List Row) (past : List Entry) : Type 0 where
+pub record Kept (s : Sizes) (time : ℕ) (lasts : List ℕ) (rows : List GroupState) (past : List Entry) : Type 0 where
   pub time_is : time ≡ time_of past
   pub lasts_are : lasts ≡ map (λ r. rank_last r past) (below s.ranks)
   pub rows_are : rows ≡ map (λ g. row_of g past) (below s.groups)
@@ -33,7 +33,7 @@ row_of_is : (g : ℕ) (past : List Entry) → row_of g past ≡ row_facts (facts
 unfolding row_of
 row_of_is g past = refl
 
-module _ {s : Sizes} {time : ℕ} {lasts : List ℕ} {rows : List Row} {past : List Entry} (k : Kept s time lasts rows past) where
+module _ {s : Sizes} {time : ℕ} {lasts : List ℕ} {rows : List GroupState} {past : List Entry} (k : Kept s time lasts rows past) where
   pub lasts_long : length lasts ≡ s.ranks
   lasts_long = ap length k.lasts_are ∙ length_made (λ r. rank_last r past) s.ranks
 
@@ -53,7 +53,7 @@ length_lasts_heard time lasts (Beat group life now) = refl
 length_lasts_heard time lasts (Done group life now) = refl
 length_lasts_heard time lasts (RankBeat rank now) = length-set lasts rank time
 
-length_rows_heard : (time : ℕ) (rows : List Row) (e : Event) → length (rows_heard time rows e) ≡ length rows
+length_rows_heard : (time : ℕ) (rows : List GroupState) (e : Event) → length (rows_heard time rows e) ≡ length rows
 length_rows_heard time rows (Tick now) = refl
 length_rows_heard time rows (Beat group life now) = length-set rows group (row_beat life time (get_or rows group Waiting))
 length_rows_heard time rows (Done group life now) = length-set rows group (row_done life (get_or rows group Waiting))
@@ -65,7 +65,7 @@ lasts_heard_at time lasts (Beat group life now) r h = refl
 lasts_heard_at time lasts (Done group life now) r h = refl
 lasts_heard_at time lasts (RankBeat rank now) r h = get_set lasts rank r time 0 h
 
-rows_heard_at : (time : ℕ) (rows : List Row) (e : Event) (g : ℕ) → g < length rows → get_or (rows_heard time rows e) g Waiting ≡ row_came g time e (get_or rows g Waiting)
+rows_heard_at : (time : ℕ) (rows : List GroupState) (e : Event) (g : ℕ) → g < length rows → get_or (rows_heard time rows e) g Waiting ≡ row_came g time e (get_or rows g Waiting)
 rows_heard_at time rows (Tick now) g h = refl
 rows_heard_at time rows (Beat group life now) g h = get_change rows group g (row_beat life time) Waiting h
 rows_heard_at time rows (Done group life now) g h = get_change rows group g (row_done life) Waiting h
@@ -79,7 +79,7 @@ time_came : (e : Event) (past : List Entry) → time_of (came e ∷ past) ≡ ma
 unfolding time_of
 time_came e past = refl
 
-pub kept_came : {s : Sizes} {time : ℕ} {lasts : List ℕ} {rows : List Row} {past : List Entry} (e : Event) → Kept s time lasts rows past → Sound s past → Kept s (max time (now_of e)) (lasts_heard (max time (now_of e)) lasts e) (rows_heard (max time (now_of e)) rows e) (came e ∷ past)
+pub kept_came : {s : Sizes} {time : ℕ} {lasts : List ℕ} {rows : List GroupState} {past : List Entry} (e : Event) → Kept s time lasts rows past → Sound s past → Kept s (max time (now_of e)) (lasts_heard (max time (now_of e)) lasts e) (rows_heard (max time (now_of e)) rows e) (came e ∷ past)
 kept_came {s} {time} {lasts} {rows} {past} e k o =
     let now : max time (now_of e) ≡ time_of (came e ∷ past) = ap (λ t. max t (now_of e)) k.time_is ∙ sym (time_came e past) in
     record {
@@ -101,20 +101,20 @@ kept_came {s} {time} {lasts} {rows} {past} e k o =
     }
 
 -- what the rows say is done at a Tick
-ranks_due_are : {s : Sizes} {time : ℕ} {lasts : List ℕ} {rows : List Row} {past : List Entry} → Kept s time lasts rows past → ranks_due s.silence time lasts s.ranks ≡ rank_restarts s past
+ranks_due_are : {s : Sizes} {time : ℕ} {lasts : List ℕ} {rows : List GroupState} {past : List Entry} → Kept s time lasts rows past → ranks_due s.silence time lasts s.ranks ≡ rank_restarts s past
 unfolding ranks_due chosen rank_restarts
 ranks_due_are {s} {time} {lasts} {rows} {past} k =
     ap (map (λ r. RestartRank r)) (same_filter (λ r. ltb s.silence (time - get_or lasts r 0)) (λ r. is_silent s past (rank_last r past)) s.ranks
     (λ r h. ap (λ t. ltb s.silence (t - get_or lasts r 0)) k.time_is ∙ ap (λ l. ltb s.silence (time_of past - l)) (last_at k r h)))
 
-silent_1 : {s : Sizes} {time : ℕ} {lasts : List ℕ} {rows : List Row} {past : List Entry} → Kept s time lasts rows past → Sound s past → (g : ℕ) → g < s.groups → is_due s.silence time (get_or rows g Waiting) ≡ silent_facts s.silence (time_of (past_1 s past)) (facts g (past_1 s past))
+silent_1 : {s : Sizes} {time : ℕ} {lasts : List ℕ} {rows : List GroupState} {past : List Entry} → Kept s time lasts rows past → Sound s past → (g : ℕ) → g < s.groups → is_due s.silence time (get_or rows g Waiting) ≡ silent_facts s.silence (time_of (past_1 s past)) (facts g (past_1 s past))
 silent_1 {s} {time} {lasts} {rows} {past} k o g h =
     ap (is_due s.silence time) (row_at k g h)
     ∙ due_row s.silence s.lives time g (facts g past) (o.ordered g)
     ∙ ap (λ t. silent_facts s.silence t (facts g past)) (k.time_is ∙ sym (time_with_actions (rank_restarts s past) past))
     ∙ ap (silent_facts s.silence (time_of (past_1 s past))) (sym (facts_1 s past g))
 
-groups_due_are : {s : Sizes} {time : ℕ} {lasts : List ℕ} {rows : List Row} {past : List Entry} → Kept s time lasts rows past → Sound s past → groups_due s.silence s.lives time rows s.groups ≡ group_answers s (past_1 s past)
+groups_due_are : {s : Sizes} {time : ℕ} {lasts : List ℕ} {rows : List GroupState} {past : List Entry} → Kept s time lasts rows past → Sound s past → groups_due s.silence s.lives time rows s.groups ≡ group_answers s (past_1 s past)
 unfolding groups_due chosen group_answers
 groups_due_are {s} {time} {lasts} {rows} {past} k o =
     same_choice (λ g. is_due s.silence time (get_or rows g Waiting)) (λ g. runs g (past_1 s past) && is_silent s (past_1 s past) (last_of g (past_1 s past)))
@@ -127,10 +127,10 @@ groups_due_are {s} {time} {lasts} {rows} {past} k o =
     ∙ answer_row s.silence s.lives time g (facts g past) (o.ordered g) silent
     ∙ ap (answer_facts s.lives g) (sym (facts_1 s past g)))
 
-facts_2_at : {s : Sizes} {time : ℕ} {lasts : List ℕ} {rows : List Row} {past : List Entry} → Kept s time lasts rows past → (g : ℕ) → g < s.groups → answered s.silence s.lives time g (facts g past) ≡ facts g (past_2 s past)
+facts_2_at : {s : Sizes} {time : ℕ} {lasts : List ℕ} {rows : List GroupState} {past : List Entry} → Kept s time lasts rows past → (g : ℕ) → g < s.groups → answered s.silence s.lives time g (facts g past) ≡ facts g (past_2 s past)
 facts_2_at {s} {time} {lasts} {rows} {past} k g h = ap (λ t. answered s.silence s.lives t g (facts g past)) k.time_is ∙ sym (facts_2 s past g h)
 
-staying_is : {s : Sizes} {time : ℕ} {lasts : List ℕ} {rows : List Row} {past : List Entry} → Kept s time lasts rows past → Sound s past → staying s.silence s.lives time rows s.groups ≡ running s (past_2 s past)
+staying_is : {s : Sizes} {time : ℕ} {lasts : List ℕ} {rows : List GroupState} {past : List Entry} → Kept s time lasts rows past → Sound s past → staying s.silence s.lives time rows s.groups ≡ running s (past_2 s past)
 unfolding staying chosen running
 staying_is {s} {time} {lasts} {rows} {past} k o =
     ap length (same_filter (λ g. stays_on s.silence s.lives time (get_or rows g Waiting)) (λ g. runs g (past_2 s past)) s.groups
@@ -138,7 +138,7 @@ staying_is {s} {time} {lasts} {rows} {past} k o =
     ∙ stays_row s.silence s.lives time g (facts g past) (o.ordered g)
     ∙ ap run_facts (facts_2_at k g h)))
 
-starts_due_are : {s : Sizes} {time : ℕ} {lasts : List ℕ} {rows : List Row} {past : List Entry} → Kept s time lasts rows past → Sound s past → (room : ℕ) → room ≡ s.slots - running s (past_2 s past) → starts_due room rows s.groups ≡ starts s (past_2 s past)
+starts_due_are : {s : Sizes} {time : ℕ} {lasts : List ℕ} {rows : List GroupState} {past : List Entry} → Kept s time lasts rows past → Sound s past → (room : ℕ) → room ≡ s.slots - running s (past_2 s past) → starts_due room rows s.groups ≡ starts s (past_2 s past)
 unfolding starts_due chosen starts
 starts_due_are {s} {time} {lasts} {rows} {past} k o room e =
     ap (λ l. map (λ g. Start g 1) (take room l)) (same_filter (λ g. is_waiting (get_or rows g Waiting)) (λ g. waits g (past_2 s past)) s.groups
@@ -147,7 +147,7 @@ starts_due_are {s} {time} {lasts} {rows} {past} k o room e =
     ∙ ap wait_facts (facts_2_at k g h)))
     ∙ ap (λ n. map (λ g. Start g 1) (take n (filter (λ g. waits g (past_2 s past)) (below s.groups)))) e
 
-pub due_is : {s : Sizes} {time : ℕ} {lasts : List ℕ} {rows : List Row} {past : List Entry} → Kept s time lasts rows past → Sound s past → due s time lasts rows ≡ tick_actions s past
+pub due_is : {s : Sizes} {time : ℕ} {lasts : List ℕ} {rows : List GroupState} {past : List Entry} → Kept s time lasts rows past → Sound s past → due s time lasts rows ≡ tick_actions s past
 unfolding due tick_actions answers
 due_is {s} {time} {lasts} {rows} {past} k o =
     ap (λ l. l ++ (groups_due s.silence s.lives time rows s.groups ++ starts_due (s.slots - staying s.silence s.lives time rows s.groups) rows s.groups)) (ranks_due_are k)
@@ -162,7 +162,7 @@ length_lasts_with time lasts (Restart group life) = refl
 length_lasts_with time lasts (GiveUp group) = refl
 length_lasts_with time lasts (RestartRank rank) = length-set lasts rank time
 
-length_rows_with : (time : ℕ) (rows : List Row) (a : Action) → length (rows_with time rows a) ≡ length rows
+length_rows_with : (time : ℕ) (rows : List GroupState) (a : Action) → length (rows_with time rows a) ≡ length rows
 length_rows_with time rows (Start group life) = length-set rows group (Running life time)
 length_rows_with time rows (Restart group life) = length-set rows group (Running life time)
 length_rows_with time rows (GiveUp group) = length-set rows group GivenUp
@@ -173,7 +173,7 @@ unfolding lasts_after
 length_lasts_after time lasts [] = refl
 length_lasts_after time lasts (a ∷ actions) = length_lasts_after time (lasts_with time lasts a) actions ∙ length_lasts_with time lasts a
 
-pub length_rows_after : (time : ℕ) (rows : List Row) (actions : List Action) → length (rows_after time rows actions) ≡ length rows
+pub length_rows_after : (time : ℕ) (rows : List GroupState) (actions : List Action) → length (rows_after time rows actions) ≡ length rows
 unfolding rows_after
 length_rows_after time rows [] = refl
 length_rows_after time rows (a ∷ actions) = length_rows_after time (rows_with time rows a) actions ∙ length_rows_with time rows a
@@ -192,41 +192,41 @@ lasts_after_at time (a ∷ actions) lasts r h =
     ∙ ap (cond (any_restart r actions) time) (lasts_with_at time lasts a r h)
     ∙ once_is_enough (is_rank_restart r a) (any_restart r actions) time (get_or lasts r 0)
 
-abbrev rows_fold : ℕ → ℕ → List Action → Row → Row
+abbrev rows_fold : ℕ → ℕ → List Action → GroupState → GroupState
 rows_fold g time [] row = row
 rows_fold g time (a ∷ actions) row = rows_fold g time actions (row_did g time a row)
 
-rows_with_at : (time : ℕ) (rows : List Row) (a : Action) (g : ℕ) → g < length rows → get_or (rows_with time rows a) g Waiting ≡ row_did g time a (get_or rows g Waiting)
+rows_with_at : (time : ℕ) (rows : List GroupState) (a : Action) (g : ℕ) → g < length rows → get_or (rows_with time rows a) g Waiting ≡ row_did g time a (get_or rows g Waiting)
 rows_with_at time rows (Start group life) g h = get_set rows group g (Running life time) Waiting h
 rows_with_at time rows (Restart group life) g h = get_set rows group g (Running life time) Waiting h
 rows_with_at time rows (GiveUp group) g h = get_set rows group g GivenUp Waiting h
 rows_with_at time rows (RestartRank rank) g h = refl
 
-rows_after_at : (time : ℕ) (actions : List Action) (rows : List Row) (g : ℕ) → g < length rows → get_or (rows_after time rows actions) g Waiting ≡ rows_fold g time actions (get_or rows g Waiting)
+rows_after_at : (time : ℕ) (actions : List Action) (rows : List GroupState) (g : ℕ) → g < length rows → get_or (rows_after time rows actions) g Waiting ≡ rows_fold g time actions (get_or rows g Waiting)
 unfolding rows_after
 rows_after_at time [] rows g h = refl
 rows_after_at time (a ∷ actions) rows g h =
     rows_after_at time actions (rows_with time rows a) g (omega (arith, length_rows_with time rows a))
     ∙ ap (rows_fold g time actions) (rows_with_at time rows a g h)
 
-row_other : (g time : ℕ) (a : Action) (row : Row) → is_of g a ≡ false → row_did g time a row ≡ row
+row_other : (g time : ℕ) (a : Action) (row : GroupState) → is_of g a ≡ false → row_did g time a row ≡ row
 row_other g time (Start group life) row e = ap (λ b. cond b (Running life time) row) e
 row_other g time (Restart group life) row e = ap (λ b. cond b (Running life time) row) e
 row_other g time (GiveUp group) row e = ap (λ b. cond b GivenUp row) e
 row_other g time (RestartRank rank) row e = refl
 
-rows_picked : (g time : ℕ) (actions : List Action) (row : Row) → rows_fold g time actions row ≡ rows_fold g time (filter (is_of g) actions) row
+rows_picked : (g time : ℕ) (actions : List Action) (row : GroupState) → rows_fold g time actions row ≡ rows_fold g time (filter (is_of g) actions) row
 rows_picked g time [] row = refl
 rows_picked g time (a ∷ actions) row = elim (cases_Bool (is_of g a)) [
   | inl t ↦ rows_picked g time actions (row_did g time a row) ∙ sym (ap (λ l. rows_fold g time l row) (filter_yes (is_of g) a actions t))
   | inr n ↦ ap (rows_fold g time actions) (row_other g time a row n) ∙ rows_picked g time actions row ∙ sym (ap (λ l. rows_fold g time l row) (filter_no (is_of g) a actions n))
 ]
 
-fold_one : (g time : ℕ) (b : Bool) (a : Action) (row : Row) → rows_fold g time (cond b (a ∷ []) []) row ≡ cond b (row_did g time a row) row
+fold_one : (g time : ℕ) (b : Bool) (a : Action) (row : GroupState) → rows_fold g time (cond b (a ∷ []) []) row ≡ cond b (row_did g time a row) row
 fold_one g time true a row = refl
 fold_one g time false a row = refl
 
-row_by : (g time : ℕ) (actions : List Action) (rows : List Row) (b : Bool) (a : Action) → g < length rows → filter (is_of g) actions ≡ cond b (a ∷ []) [] → get_or (rows_after time rows actions) g Waiting ≡ cond b (row_did g time a (get_or rows g Waiting)) (get_or rows g Waiting)
+row_by : (g time : ℕ) (actions : List Action) (rows : List GroupState) (b : Bool) (a : Action) → g < length rows → filter (is_of g) actions ≡ cond b (a ∷ []) [] → get_or (rows_after time rows actions) g Waiting ≡ cond b (row_did g time a (get_or rows g Waiting)) (get_or rows g Waiting)
 row_by g time actions rows b a h own =
     rows_after_at time actions rows g h
     ∙ rows_picked g time actions (get_or rows g Waiting)
@@ -238,7 +238,7 @@ row_if_started lives g time true f o w = sym (row_started lives time g f o (w re
 row_if_started lives g time false f o w = refl
 
 -- a group's row after the answers, and after the starts
-row_2 : {s : Sizes} {time : ℕ} {lasts : List ℕ} {rows : List Row} {past : List Entry} → Kept s time lasts rows past → Sound s past → (g : ℕ) → g < s.groups → get_or (rows_after time rows (answers s past)) g Waiting ≡ row_facts (facts g (past_2 s past))
+row_2 : {s : Sizes} {time : ℕ} {lasts : List ℕ} {rows : List GroupState} {past : List Entry} → Kept s time lasts rows past → Sound s past → (g : ℕ) → g < s.groups → get_or (rows_after time rows (answers s past)) g Waiting ≡ row_facts (facts g (past_2 s past))
 row_2 {s} {time} {lasts} {rows} {past} k o g h =
     row_by g time (answers s past) rows (silent_facts s.silence (time_of past) (facts g past)) (answer_facts s.lives g (facts g past)) (omega (arith, rows_long k)) (own_in_answers s past g h)
     ∙ ap (λ t. cond (silent_facts s.silence (time_of past) (facts g past)) (row_did g t (answer_facts s.lives g (facts g past)) (get_or rows g Waiting)) (get_or rows g Waiting)) k.time_is
@@ -246,7 +246,7 @@ row_2 {s} {time} {lasts} {rows} {past} k o g h =
     ∙ sym (row_answered s.silence s.lives (time_of past) g (facts g past) (o.ordered g))
     ∙ ap row_facts (sym (facts_2 s past g h))
 
-row_3 : {s : Sizes} {time : ℕ} {lasts : List ℕ} {rows : List Row} {past : List Entry} → Kept s time lasts rows past → Sound s past → (g : ℕ) → g < s.groups → get_or (rows_after time rows (tick_actions s past)) g Waiting ≡ row_facts (facts g (with_actions (tick_actions s past) past))
+row_3 : {s : Sizes} {time : ℕ} {lasts : List ℕ} {rows : List GroupState} {past : List Entry} → Kept s time lasts rows past → Sound s past → (g : ℕ) → g < s.groups → get_or (rows_after time rows (tick_actions s past)) g Waiting ≡ row_facts (facts g (with_actions (tick_actions s past) past))
 unfolding tick_actions
 row_3 {s} {time} {lasts} {rows} {past} k o g h =
     let long : g < length (rows_after time rows (answers s past)) = omega (arith, length_rows_after time rows (answers s past), rows_long k) in
@@ -260,7 +260,7 @@ row_3 {s} {time} {lasts} {rows} {past} k o g h =
     ∙ ap row_facts (sym (facts_3 s (past_2 s past) g h))
     ∙ ap (λ p. row_facts (facts g p)) (sym (tick_past s past))
 
-pub kept_tick : {s : Sizes} {time : ℕ} {lasts : List ℕ} {rows : List Row} {past : List Entry} → Kept s time lasts rows past → Sound s past → Kept s time (lasts_after time lasts (tick_actions s past)) (rows_after time rows (tick_actions s past)) (with_actions (tick_actions s past) past)
+pub kept_tick : {s : Sizes} {time : ℕ} {lasts : List ℕ} {rows : List GroupState} {past : List Entry} → Kept s time lasts rows past → Sound s past → Kept s time (lasts_after time lasts (tick_actions s past)) (rows_after time rows (tick_actions s past)) (with_actions (tick_actions s past) past)
 kept_tick {s} {time} {lasts} {rows} {past} k o = record {
   time_is = k.time_is ∙ sym (time_with_actions (tick_actions s past) past);
   lasts_are = is_made (lasts_after time lasts (tick_actions s past)) (λ r. rank_last r (with_actions (tick_actions s past) past)) s.ranks 0
@@ -275,11 +275,11 @@ kept_tick {s} {time} {lasts} {rows} {past} k o = record {
 }
 
 -- one event and what is done at it
-kept_none : {s : Sizes} {time : ℕ} {lasts : List ℕ} {rows : List Row} {past : List Entry} → Kept s time lasts rows past → Kept s time (lasts_after time lasts []) (rows_after time rows []) (with_actions [] past)
+kept_none : {s : Sizes} {time : ℕ} {lasts : List ℕ} {rows : List GroupState} {past : List Entry} → Kept s time lasts rows past → Kept s time (lasts_after time lasts []) (rows_after time rows []) (with_actions [] past)
 unfolding lasts_after rows_after with_actions
 kept_none k = k
 
-kept_either : {s : Sizes} {time : ℕ} {lasts : List ℕ} {rows : List Row} {past : List Entry} (b : Bool) → Kept s time lasts rows past → Sound s past → Kept s time (lasts_after time lasts (cond b (tick_actions s past) [])) (rows_after time rows (cond b (tick_actions s past) [])) (with_actions (cond b (tick_actions s past) []) past)
+kept_either : {s : Sizes} {time : ℕ} {lasts : List ℕ} {rows : List GroupState} {past : List Entry} (b : Bool) → Kept s time lasts rows past → Sound s past → Kept s time (lasts_after time lasts (cond b (tick_actions s past) [])) (rows_after time rows (cond b (tick_actions s past) [])) (with_actions (cond b (tick_actions s past) []) past)
 kept_either true k o = kept_tick k o
 kept_either false k o = kept_none k
 

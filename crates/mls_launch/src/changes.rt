@@ -3,7 +3,7 @@
 ghost use Rattle.std.specs.Prelude.{◌≡◌, slice_set};
 ghost use Rattle.mls_launch.specs.Rows.{lasts_with, rows_with, lasts_after, rows_after, lasts_heard, rows_heard, row_at};
 
-use crate::rows::Row;
+use crate::rows::GroupState;
 use mls_model::launcher::{Action, Event};
 
 fn set_last(lasts: &mut [u32], rank: u32, time: u32)
@@ -14,7 +14,7 @@ fn set_last(lasts: &mut [u32], rank: u32, time: u32)
     }
 }
 
-fn set_row(rows: &mut [Row], group: u32, row: Row)
+fn set_row(rows: &mut [GroupState], group: u32, row: GroupState)
     ensures { rows.new ≡ slice_set rows.old group row }
 {
     if (group as usize) < rows.len() {
@@ -22,18 +22,18 @@ fn set_row(rows: &mut [Row], group: u32, row: Row)
     }
 }
 
-fn row_at(rows: &[Row], group: u32) -> Row
+fn row_at(rows: &[GroupState], group: u32) -> GroupState
     ensures { result ≡ row_at rows.now group }
 {
     if (group as usize) < rows.len() {
         rows[group as usize]
     } else {
-        Row::Waiting
+        GroupState::Waiting
     }
 }
 
 /// Takes note of what was heard.
-pub fn hear(lasts: &mut [u32], rows: &mut [Row], event: &Event, time: u32)
+pub fn hear(lasts: &mut [u32], rows: &mut [GroupState], event: &Event, time: u32)
     ensures lasts { lasts.new ≡ lasts_heard time lasts.old event.now }
     ensures rows { rows.new ≡ rows_heard time rows.old event.now }
 {
@@ -52,20 +52,20 @@ pub fn hear(lasts: &mut [u32], rows: &mut [Row], event: &Event, time: u32)
 }
 
 /// Takes note of an action.
-fn carry_out(lasts: &mut [u32], rows: &mut [Row], action: Action, time: u32)
+fn carry_out(lasts: &mut [u32], rows: &mut [GroupState], action: Action, time: u32)
     ensures lasts { lasts.new ≡ lasts_with time lasts.old action }
     ensures rows { rows.new ≡ rows_with time rows.old action }
 {
     match action {
-        Action::Start { group, life } => set_row(rows, group, Row::Running { life, last: time }),
-        Action::Restart { group, life } => set_row(rows, group, Row::Running { life, last: time }),
-        Action::GiveUp { group } => set_row(rows, group, Row::GivenUp),
+        Action::Start { group, life } => set_row(rows, group, GroupState::Running { life, last: time }),
+        Action::Restart { group, life } => set_row(rows, group, GroupState::Running { life, last: time }),
+        Action::GiveUp { group } => set_row(rows, group, GroupState::GivenUp),
         Action::RestartRank { rank } => set_last(lasts, rank, time),
     }
 }
 
 /// Takes note of actions, in order.
-pub fn carry_out_all(lasts: &mut [u32], rows: &mut [Row], actions: &[Action], time: u32)
+pub fn carry_out_all(lasts: &mut [u32], rows: &mut [GroupState], actions: &[Action], time: u32)
     ensures lasts { lasts.new ≡ lasts_after time lasts.old actions.now }
     ensures rows { rows.new ≡ rows_after time rows.old actions.now }
 {

@@ -3,7 +3,7 @@
 ghost use Rattle.std.specs.Prelude.{◌≡◌, ◌+◌, ◌-◌, ◌++◌, ◌<◌, ◌≤◌, length, OnOk};
 ghost use Rattle.mls_launch.specs.Rows.{ranks_due, groups_due, staying, starts_due, stays_on};
 
-use crate::rows::Row;
+use crate::rows::GroupState;
 use mls_base::faults::NoMemory;
 use mls_model::launcher::Action;
 
@@ -29,7 +29,7 @@ pub fn restart_ranks(
 /// Answers the silent groups.
 #[tactic(auto, using(crate::proofs::Chosen::due_steps))]
 pub fn answer_groups(
-    rows: &[Row],
+    rows: &[GroupState],
     silence: u32,
     lives: u32,
     time: u32,
@@ -49,7 +49,7 @@ pub fn answer_groups(
 
 /// How many groups run on when the silent ones have been answered.
 #[tactic(auto, using(crate::proofs::Chosen::due_steps))]
-pub fn count_staying(rows: &[Row], silence: u32, lives: u32, time: u32) -> u32
+pub fn count_staying(rows: &[GroupState], silence: u32, lives: u32, time: u32) -> u32
     requires { length rows.now ≤ 65535 }
     ensures value { result ≡ staying silence lives time rows.now (length rows.now) }
     ensures within { result ≤ 65535 }
@@ -66,7 +66,7 @@ pub fn count_staying(rows: &[Row], silence: u32, lives: u32, time: u32) -> u32
 /// Starts waiting groups, while fewer than `slots` groups run.
 #[tactic(auto, using(crate::proofs::Chosen::due_steps))]
 pub fn start_groups(
-    rows: &[Row],
+    rows: &[GroupState],
     slots: u32,
     mut running: u32,
     actions: &mut Vec<Action>,

@@ -7,20 +7,20 @@ use mls_model::launcher::Action;
 
 /// Where a group stands.
 #[derive(Clone, Copy)]
-pub enum Row {
+pub enum GroupState {
     Waiting,
     Running { life: u32, last: u32 },
     Finished,
     GivenUp,
 }
 
-impl Row {
+impl GroupState {
     /// The row after a sign of life.
-    pub fn after_beat(self, life: u32, time: u32) -> Row
+    pub fn after_beat(self, life: u32, time: u32) -> GroupState
         ensures { result ≡ row_beat life time self }
     {
         match self {
-            Row::Running { life: alive, .. } if life == alive => Row::Running {
+            GroupState::Running { life: alive, .. } if life == alive => GroupState::Running {
                 life: alive,
                 last: time,
             },
@@ -29,12 +29,12 @@ impl Row {
     }
 
     /// The row after the end of a life.
-    pub fn after_done(self, life: u32) -> Row
+    pub fn after_done(self, life: u32) -> GroupState
         ensures { result ≡ row_done life self }
     {
         match self {
-            Row::Running { life: alive, .. } if life == alive => Row::Finished,
-            Row::Waiting => Row::Finished,
+            GroupState::Running { life: alive, .. } if life == alive => GroupState::Finished,
+            GroupState::Waiting => GroupState::Finished,
             row => row,
         }
     }
@@ -44,7 +44,7 @@ impl Row {
         ensures { result ≡ is_due silence time self }
     {
         match self {
-            Row::Running { last, .. } => time.saturating_sub(last) > silence,
+            GroupState::Running { last, .. } => time.saturating_sub(last) > silence,
             _ => false,
         }
     }
@@ -55,7 +55,7 @@ impl Row {
         ensures { result ≡ answer_for lives group self }
     {
         match self {
-            Row::Running { life, .. } if life < lives => Action::Restart {
+            GroupState::Running { life, .. } if life < lives => Action::Restart {
                 group,
                 life: life + 1,
             },
@@ -68,7 +68,7 @@ impl Row {
         ensures { result ≡ stays_on silence lives time self }
     {
         match self {
-            Row::Running { life, last } => time.saturating_sub(last) <= silence || life < lives,
+            GroupState::Running { life, last } => time.saturating_sub(last) <= silence || life < lives,
             _ => false,
         }
     }
@@ -77,7 +77,7 @@ impl Row {
         ensures { result ≡ is_waiting self }
     {
         match self {
-            Row::Waiting => true,
+            GroupState::Waiting => true,
             _ => false,
         }
     }
@@ -86,7 +86,7 @@ impl Row {
         ensures { result ≡ is_running self }
     {
         match self {
-            Row::Running { .. } => true,
+            GroupState::Running { .. } => true,
             _ => false,
         }
     }
@@ -95,7 +95,7 @@ impl Row {
         ensures { result ≡ is_done self }
     {
         match self {
-            Row::Finished => true,
+            GroupState::Finished => true,
             _ => false,
         }
     }
@@ -104,7 +104,7 @@ impl Row {
         ensures { result ≡ is_left self }
     {
         match self {
-            Row::GivenUp => true,
+            GroupState::GivenUp => true,
             _ => false,
         }
     }

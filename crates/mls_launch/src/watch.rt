@@ -9,7 +9,7 @@ ghost use Rattle.mls_launch.specs.Writing.{AreTotals};
 
 use crate::changes::{carry_out_all, hear};
 use crate::deciding::{answer_groups, count_staying, restart_ranks, start_groups};
-use crate::rows::Row;
+use crate::rows::GroupState;
 use crate::totals::{Totals, totals_of};
 use mls_base::faults::NoMemory;
 use mls_base::shape::Shape;
@@ -24,7 +24,7 @@ pub struct Watch {
     alloc: Global,
     time: u32,
     lasts: Vec<u32>,
-    rows: Vec<Row>,
+    rows: Vec<GroupState>,
 }
 
 impl Model for Watch {
@@ -46,7 +46,7 @@ impl Watch {
         ensures stands { IfOk result (λ w. StandsFor w []) }
     {
         let lasts = vec![in alloc; 0u32; shape.ranks() as usize]?;
-        let rows = vec![in alloc; Row::Waiting; shape.groups() as usize]?;
+        let rows = vec![in alloc; GroupState::Waiting; shape.groups() as usize]?;
         Ok(Watch {
             shape: *shape,
             alloc,

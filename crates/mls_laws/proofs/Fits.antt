@@ -11,10 +11,10 @@ use Rattle.mls_model.specs.declared.outcomes.Outcome.TheVariants.{Foreign}
 use Rattle.mls_model.specs.Studies.{Sizes, planes}
 use Rattle.mls_model.specs.Blocks.{overlap, overlaps, width}
 use Rattle.mls_model.specs.Frames.{Frame, Piece, piece, beat, bye, save, crash, hello, welcome, refuse}
-use Rattle.mls_model.specs.Histories.{Event}
+use Rattle.mls_model.specs.Histories.{LaneEvent}
 use Rattle.mls_model.specs.Fitting.{has_its_cells, piece_reason, frame_piece, fitting_piece, fitting}
 use Rattle.mls_model.specs.Outcomes.{piece_outcome, outcome}
-use Rattle.mls_laws.specs.Fitting.{Fits}
+use Rattle.mls_model.specs.Fitting.{Fits}
 
 passed : (b : Bool) (r : Reason) (rest : Option Reason) → cond (not b) (Some r) rest ≡ None → (b ≡ true) × (rest ≡ None)
 passed true r rest h = (refl, h)
@@ -57,18 +57,18 @@ of_frame s rank Client (refuse r v) q h = absurd cc
 of_frame s rank Control frame q h = absurd cc
 
 -- a fitting piece is that of an event on a client lane, and none of the reasons holds
-pub of_event : (s : Sizes) (rank : ℕ) (e : Event) (q : Piece) → fitting_piece s rank e ≡ Some q
+pub of_event : (s : Sizes) (rank : ℕ) (e : LaneEvent) (q : Piece) → fitting_piece s rank e ≡ Some q
     → (e.kind ≡ Client) × (e.frame ≡ piece q) × (piece_reason s rank q ≡ None)
 of_event s rank e q h = of_frame s rank e.kind e.frame q h
 
-pub event_fits : (s : Sizes) (rank : ℕ) (e : Event) (q : Piece) → fitting_piece s rank e ≡ Some q → Fits s rank q
+pub event_fits : (s : Sizes) (rank : ℕ) (e : LaneEvent) (q : Piece) → fitting_piece s rank e ≡ Some q → Fits s rank q
 event_fits s rank e q h = let parts = of_event s rank e q h in fits s rank q (parts.2)
 
 no_reason : (o : Option Reason) (x : Outcome) → o ≡ None → elim o [ Some r ↦ Foreign r | None ↦ x ] ≡ x
 no_reason None x h = refl
 no_reason (Some r) x h = absurd cc
 
-pub outcome_of_fitting : (s : Sizes) (rank : ℕ) (before : List Event) (e : Event) (q : Piece) → fitting_piece s rank e ≡ Some q
+pub outcome_of_fitting : (s : Sizes) (rank : ℕ) (before : List LaneEvent) (e : LaneEvent) (q : Piece) → fitting_piece s rank e ≡ Some q
     → outcome s rank before e ≡ piece_outcome s rank (fitting s rank before) q
 unfolding outcome
 outcome_of_fitting s rank before e q h =
@@ -79,10 +79,10 @@ all_cons : (s : Sizes) (rank : ℕ) (o : Option Piece) (rest : List Piece) → (
 all_cons s rank None rest each h = h
 all_cons s rank (Some q) rest each h = (each q refl, h)
 
-all_filtered : (s : Sizes) (rank : ℕ) (events : List Event) → AllByRecursion (Fits s rank) (filter_map (fitting_piece s rank) events)
+all_filtered : (s : Sizes) (rank : ℕ) (events : List LaneEvent) → AllByRecursion (Fits s rank) (filter_map (fitting_piece s rank) events)
 all_filtered s rank [] = tt
 all_filtered s rank (e ∷ rest) = all_cons s rank (fitting_piece s rank e) (filter_map (fitting_piece s rank) rest) (event_fits s rank e) (all_filtered s rank rest)
 
-pub all_fit : (s : Sizes) (rank : ℕ) (events : List Event) → AllByRecursion (Fits s rank) (fitting s rank events)
+pub all_fit : (s : Sizes) (rank : ℕ) (events : List LaneEvent) → AllByRecursion (Fits s rank) (fitting s rank events)
 unfolding fitting
 all_fit s rank events = all_filtered s rank events

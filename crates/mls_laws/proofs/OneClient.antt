@@ -13,10 +13,10 @@ use Rattle.mls_model.specs.Studies.{Sizes, AreSizes}
 use Rattle.mls_model.specs.Blocks.{block, part, width, meet, overlap, overlaps}
 use Rattle.mls_model.specs.Frames.{Piece}
 use Rattle.mls_model.specs.Completion.{Key, key_of, is_of_key, is_later_life, is_share, has_all_shares, makes_whole, is_completed, completes}
-use Rattle.mls_model.specs.Histories.{Event}
+use Rattle.mls_model.specs.Histories.{LaneEvent}
 use Rattle.mls_model.specs.Fitting.{fitting, fitting_piece}
 use Rattle.mls_model.specs.Outcomes.{piece_outcome, outcome}
-use Rattle.mls_laws.specs.Fitting.{Fits}
+use Rattle.mls_model.specs.Fitting.{Fits}
 use Rattle.mls_laws.proofs.Fits.{all_fit, event_fits, outcome_of_fitting}
 use Rattle.mls_laws.proofs.Completing.{same_key, own_key, closed}
 
@@ -177,7 +177,7 @@ completed_more s rank key before p one all fit =
     ∙ ap (λ b. b || is_of_key key p) (sym (completed_where_found s rank key before one all))))
 
 -- the outcome of an event with a fitting piece
-pub outcome_of_piece : (s : Sizes) (rank : ℕ) (before : List Event) (e : Event) (p : Piece) → s.clients ≡ 1 → fitting_piece s rank e ≡ Some p
+pub outcome_of_piece : (s : Sizes) (rank : ℕ) (before : List LaneEvent) (e : LaneEvent) (p : Piece) → s.clients ≡ 1 → fitting_piece s rank e ≡ Some p
     → outcome s rank before e ≡ cond (list_any (is_of_key (key_of p)) (fitting s rank before)) Replay Accepted
 outcome_of_piece s rank before e p one h =
     outcome_of_fitting s rank before e p h ∙ replay_or_accepted s rank (fitting s rank before) p one (all_fit s rank before) (event_fits s rank e p h)

@@ -8,22 +8,22 @@ use Rattle.std.proofs.lemmas.List.Sums.{sum_by-append}
 use Rattle.mls_model.specs.declared.outcomes.Outcome.{Outcome}
 use Rattle.mls_model.specs.declared.outcomes.Counts.{Counts}
 use Rattle.mls_model.specs.Studies.{Sizes}
-use Rattle.mls_model.specs.Histories.{Event}
+use Rattle.mls_model.specs.Histories.{LaneEvent}
 use Rattle.mls_model.specs.Fitting.{fitting, fitting_piece}
 use Rattle.mls_model.specs.Outcomes.{outcome, outcomes, tally, counts, is_accepted, is_kept, is_replay, is_stale, is_repeated, is_foreign_by}
-use Rattle.mls_laws.specs.OneMore.{raised, counted}
+use Rattle.mls_model.specs.Outcomes.{raised, counted}
 use Rattle.mls_laws.proofs.Places.{gathered_more}
 
 cons_to_list : {A : Type 0} (o : Option A) → cons_option o [] ≡ option_to_list o
 cons_to_list None = refl
 cons_to_list (Some x) = refl
 
-pub fitting_more : (s : Sizes) (rank : ℕ) (events : List Event) (e : Event) → fitting s rank (events ++ e ∷ []) ≡ fitting s rank events ++ option_to_list (fitting_piece s rank e)
+pub fitting_more : (s : Sizes) (rank : ℕ) (events : List LaneEvent) (e : LaneEvent) → fitting s rank (events ++ e ∷ []) ≡ fitting s rank events ++ option_to_list (fitting_piece s rank e)
 unfolding fitting
 fitting_more s rank events e =
     filter_map-append (fitting_piece s rank) events (e ∷ []) ∙ ap (λ r. filter_map (fitting_piece s rank) events ++ r) (cons_to_list (fitting_piece s rank e))
 
-pub outcomes_more : (s : Sizes) (rank : ℕ) (events : List Event) (e : Event) → outcomes s rank (events ++ e ∷ []) ≡ outcomes s rank events ++ outcome s rank events e ∷ []
+pub outcomes_more : (s : Sizes) (rank : ℕ) (events : List LaneEvent) (e : LaneEvent) → outcomes s rank (events ++ e ∷ []) ≡ outcomes s rank events ++ outcome s rank events e ∷ []
 unfolding outcomes
 outcomes_more s rank events e = gathered_more (λ before x. outcome s rank before x ∷ []) [] events e
 
@@ -45,8 +45,8 @@ pub tally_more : (all : List Outcome) (o : Outcome) → tally (all ++ o ∷ []) 
 unfolding tally
 tally_more all o =
     same_counts _ _ (one_more is_accepted all o) (one_more is_kept all o) (one_more is_replay all o) (one_more is_stale all o) (one_more is_repeated all o)
-    (one_more (is_foreign_by 1) all o) (one_more (is_foreign_by 2) all o) (one_more (is_foreign_by 3) all o) (one_more (is_foreign_by 4) all o) (one_more (is_foreign_by 5) all o) (one_more (is_foreign_by 6) all o)
+    (one_more (is_foreign_by reason.LaneKind) all o) (one_more (is_foreign_by reason.Rows) all o) (one_more (is_foreign_by reason.Group) all o) (one_more (is_foreign_by reason.Step) all o) (one_more (is_foreign_by reason.Client) all o) (one_more (is_foreign_by reason.Cells) all o)
 
-pub counts_more : (s : Sizes) (rank : ℕ) (events : List Event) (e : Event) → counts s rank (events ++ e ∷ []) ≡ counted (counts s rank events) (outcome s rank events e)
+pub counts_more : (s : Sizes) (rank : ℕ) (events : List LaneEvent) (e : LaneEvent) → counts s rank (events ++ e ∷ []) ≡ counted (counts s rank events) (outcome s rank events e)
 unfolding counts
 counts_more s rank events e = ap tally (outcomes_more s rank events e) ∙ tally_more (outcomes s rank events) (outcome s rank events e)

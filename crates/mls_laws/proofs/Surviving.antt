@@ -8,13 +8,13 @@ use Rattle.mls_model.specs.Places.{all_places}
 use Rattle.mls_model.specs.Frames.{Frame, piece, beat, bye, save, crash, hello, welcome, refuse}
 use Rattle.mls_model.specs.declared.lanes.LaneKind.{LaneKind}
 use Rattle.mls_model.specs.declared.lanes.LaneKind.TheVariants.{Client, Control}
-use Rattle.mls_model.specs.Histories.{Event}
+use Rattle.mls_model.specs.Histories.{LaneEvent}
 use Rattle.mls_model.specs.Survival.{is_save, is_crash, is_save_frame, is_crash_frame, survives, surviving}
-use Rattle.mls_laws.specs.LastSave.{before_last_save}
+use Rattle.mls_model.specs.Survival.{before_last_save}
 use Rattle.mls_laws.proofs.Places.{all_places_more}
 
 -- an event with these events before it leaves what stands before them
-abbrev pub spares : List Event → Event → Bool
+abbrev pub spares : List LaneEvent → LaneEvent → Bool
 spares between e = not (is_crash e) || list_any is_save between
 
 save_frame_no_crash : (frame : Frame) → is_save_frame frame ≡ true → is_crash_frame frame ≡ false
@@ -31,17 +31,17 @@ save_of_kind : (kind : LaneKind) (frame : Frame) → is_save (record { kind = ki
 save_of_kind Client frame h = refl
 save_of_kind Control frame h = save_frame_no_crash frame h
 
-pub save_no_crash : (e : Event) → is_save e ≡ true → is_crash e ≡ false
+pub save_no_crash : (e : LaneEvent) → is_save e ≡ true → is_crash e ≡ false
 save_no_crash e h = save_of_kind e.kind e.frame h
 
-spares_no_crash : (between : List Event) (e : Event) → is_crash e ≡ false → spares between e ≡ true
+spares_no_crash : (between : List LaneEvent) (e : LaneEvent) → is_crash e ≡ false → spares between e ≡ true
 spares_no_crash between e h = rw h refl
 
-spares_crash : (between : List Event) (e : Event) → is_crash e ≡ true → spares between e ≡ list_any is_save between
+spares_crash : (between : List LaneEvent) (e : LaneEvent) → is_crash e ≡ true → spares between e ≡ list_any is_save between
 spares_crash between e h = rw h refl
 
 -- where no crash comes, all is spared
-pub spared_no_crash : (before after : List Event) → list_any is_crash after ≡ false → all_places spares before after ≡ true
+pub spared_no_crash : (before after : List LaneEvent) → list_any is_crash after ≡ false → all_places spares before after ≡ true
 unfolding all_places
 spared_no_crash before [] h = refl
 spared_no_crash before (e ∷ after) h =
@@ -49,17 +49,17 @@ spared_no_crash before (e ∷ after) h =
     and_from _ _ (spares_no_crash before e parts.0) (spared_no_crash (before ++ e ∷ []) after parts.1)
 
 -- after a save all is spared
-pub spared_after_save : (before after : List Event) → list_any is_save before ≡ true → all_places spares before after ≡ true
+pub spared_after_save : (before after : List LaneEvent) → list_any is_save before ≡ true → all_places spares before after ≡ true
 unfolding all_places
 spared_after_save before [] h = refl
 spared_after_save before (e ∷ after) h =
     and_from _ _ (or_right (not (is_crash e)) (list_any is_save before) h) (spared_after_save (before ++ e ∷ []) after (list_any-append is_save before (e ∷ []) ∙ or_left (list_any is_save before) (list_any is_save (e ∷ [])) h))
 
-pub survives_no_crash : (after : List Event) → list_any is_crash after ≡ false → survives after ≡ true
+pub survives_no_crash : (after : List LaneEvent) → list_any is_crash after ≡ false → survives after ≡ true
 unfolding survives
 survives_no_crash after h = spared_no_crash [] after h
 
-pub survives_more : (after : List Event) (e : Event) → survives (after ++ e ∷ []) ≡ (survives after && spares after e)
+pub survives_more : (after : List LaneEvent) (e : LaneEvent) → survives (after ++ e ∷ []) ≡ (survives after && spares after e)
 unfolding survives
 survives_more after e = all_places_more spares [] after e
 
@@ -76,7 +76,7 @@ push_cond true x e xs = refl
 push_cond false x e xs = refl
 
 -- one more event that is no crash
-pub surviving_more : (h : List Event) (e : Event) → is_crash e ≡ false → surviving (h ++ e ∷ []) ≡ surviving h ++ e ∷ []
+pub surviving_more : (h : List LaneEvent) (e : LaneEvent) → is_crash e ≡ false → surviving (h ++ e ∷ []) ≡ surviving h ++ e ∷ []
 unfolding surviving
 surviving_more [] e c = rw (survives_no_crash [] refl) refl
 surviving_more (x ∷ after) e c =
@@ -84,7 +84,7 @@ surviving_more (x ∷ after) e c =
     (push_cond (survives after) x e (surviving after))
 
 -- where no crash comes, all survive
-pub surviving_all : (h : List Event) → list_any is_crash h ≡ false → surviving h ≡ h
+pub surviving_all : (h : List LaneEvent) → list_any is_crash h ≡ false → surviving h ≡ h
 unfolding surviving
 surviving_all [] c = refl
 surviving_all (e ∷ after) c =
@@ -92,7 +92,7 @@ surviving_all (e ∷ after) c =
     rw (survives_no_crash after parts.1, surviving_all after parts.1) refl
 
 -- what comes after the last crash survives
-pub surviving_append : (h after : List Event) → list_any is_crash after ≡ false → surviving (h ++ after) ≡ surviving h ++ after
+pub surviving_append : (h after : List LaneEvent) → list_any is_crash after ≡ false → surviving (h ++ after) ≡ surviving h ++ after
 surviving_append h [] c = ap surviving (append-nil h) ∙ sym (append-nil (surviving h))
 surviving_append h (e ∷ after) c =
     let parts = or_parts (is_crash e) (list_any is_crash after) c in
@@ -101,7 +101,7 @@ surviving_append h (e ∷ after) c =
     ∙ (ap (λ xs. xs ++ after) (surviving_more h e parts.0)
     ∙ append_assoc (surviving h) (e ∷ []) after))
 
-no_save_before : (h : List Event) → list_any is_save h ≡ false → before_last_save h ≡ []
+no_save_before : (h : List LaneEvent) → list_any is_save h ≡ false → before_last_save h ≡ []
 no_save_before [] s = refl
 no_save_before (e ∷ rest) s =
     let parts = or_parts (is_save e) (list_any is_save rest) s in rw (parts.1) refl
@@ -111,7 +111,7 @@ first_is true b o f = refl
 first_is false b o f = sym f ∙ o
 
 -- where there is a save, a place survives the history exactly where it survives what comes before the last save
-spared_before_save : (before after : List Event) → list_any is_save after ≡ true → all_places spares before after ≡ all_places spares before (before_last_save after)
+spared_before_save : (before after : List LaneEvent) → list_any is_save after ≡ true → all_places spares before after ≡ all_places spares before (before_last_save after)
 unfolding all_places
 spared_before_save before [] s = absurd cc
 spared_before_save before (e ∷ rest) s = ⊎_elim
@@ -121,12 +121,12 @@ spared_before_save before (e ∷ rest) s = ⊎_elim
     rw f (and_from _ _ (spares_no_crash before e (save_no_crash e here)) (spared_after_save (before ++ e ∷ []) rest (list_any-append is_save before (e ∷ []) ∙ or_right (list_any is_save before) (list_any is_save (e ∷ [])) (or_left (is_save e) false here)))))
     (cases_Bool (list_any is_save rest))
 
-survives_before_save : (after : List Event) → list_any is_save after ≡ true → survives after ≡ survives (before_last_save after)
+survives_before_save : (after : List LaneEvent) → list_any is_save after ≡ true → survives after ≡ survives (before_last_save after)
 unfolding survives
 survives_before_save after s = spared_before_save [] after s
 
 -- one more event that is a crash
-pub surviving_crash : (h : List Event) (e : Event) → is_crash e ≡ true → surviving (h ++ e ∷ []) ≡ surviving (before_last_save h) ++ e ∷ []
+pub surviving_crash : (h : List LaneEvent) (e : LaneEvent) → is_crash e ≡ true → surviving (h ++ e ∷ []) ≡ surviving (before_last_save h) ++ e ∷ []
 unfolding surviving
 surviving_crash [] e c = rw (survives_no_crash [] refl) refl
 surviving_crash (x ∷ after) e c = ⊎_elim
@@ -135,18 +135,18 @@ surviving_crash (x ∷ after) e c = ⊎_elim
     (λ f. rw (survives_more after e, and_comm_false (survives after) (spares after e) (spares_crash after e c ∙ f), surviving_crash after e c, f, no_save_before after f) refl)
     (cases_Bool (list_any is_save after))
 
-same_cond : (b : Bool) (r : List Event) → r ≡ cond b r r
+same_cond : (b : Bool) (r : List LaneEvent) → r ≡ cond b r r
 same_cond true r = refl
 same_cond false r = refl
 
-settled : (b c : Bool) (x : Event) (rest front : List Event) → cond (c || (b || false)) (x ∷ cond b rest front) [] ≡ cond b (x ∷ rest) (cond c (x ∷ front) [])
+settled : (b c : Bool) (x : LaneEvent) (rest front : List LaneEvent) → cond (c || (b || false)) (x ∷ cond b rest front) [] ≡ cond b (x ∷ rest) (cond c (x ∷ front) [])
 settled true true x rest front = refl
 settled true false x rest front = refl
 settled false true x rest front = refl
 settled false false x rest front = refl
 
 -- what the last save saw, with one more event
-pub before_last_save_more : (h : List Event) (e : Event) → before_last_save (h ++ e ∷ []) ≡ cond (is_save e) h (before_last_save h)
+pub before_last_save_more : (h : List LaneEvent) (e : LaneEvent) → before_last_save (h ++ e ∷ []) ≡ cond (is_save e) h (before_last_save h)
 before_last_save_more [] e = same_cond (is_save e) []
 before_last_save_more (x ∷ rest) e =
     ap (λ b. cond b (x ∷ before_last_save (rest ++ e ∷ [])) []) (list_any-append is_save rest (e ∷ []))
@@ -154,14 +154,14 @@ before_last_save_more (x ∷ rest) e =
     ∙ settled (is_save e) (list_any is_save rest) x rest (before_last_save rest))
 
 -- the last event survives
-last_survives : (h : List Event) (e : Event) → (kept : List Event) × (surviving (h ++ e ∷ []) ≡ kept ++ e ∷ [])
+last_survives : (h : List LaneEvent) (e : LaneEvent) → (kept : List LaneEvent) × (surviving (h ++ e ∷ []) ≡ kept ++ e ∷ [])
 last_survives h e = ⊎_elim
     (λ t. (surviving (before_last_save h), surviving_crash h e t))
     (λ f. (surviving h, surviving_more h e f))
     (cases_Bool (is_crash e))
 
 -- an event survives after which no crash comes, and so do those after it
-pub survives_at : (before : List Event) (e : Event) (after : List Event) → list_any is_crash after ≡ false → (kept : List Event) × (surviving (before ++ e ∷ after) ≡ kept ++ e ∷ after)
+pub survives_at : (before : List LaneEvent) (e : LaneEvent) (after : List LaneEvent) → list_any is_crash after ≡ false → (kept : List LaneEvent) × (surviving (before ++ e ∷ after) ≡ kept ++ e ∷ after)
 survives_at before e after c =
     let last = last_survives before e in (
       last.0,

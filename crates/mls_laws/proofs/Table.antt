@@ -15,7 +15,7 @@ use Rattle.mls_model.specs.Frames.{Piece}
 use Rattle.mls_model.specs.Completion.{key_of, is_of_key, is_share, completes}
 use Rattle.mls_model.specs.AcceptedRows.{completions, samples_at, share_row, row_at, sample_rows, shifted_rows}
 use Rattle.mls_model.specs.Standing.{Table, with_block, rank_table}
-use Rattle.mls_laws.specs.Fitting.{Fits}
+use Rattle.mls_model.specs.Fitting.{Fits}
 use Rattle.mls_laws.proofs.Completing.{completions_more}
 use Rattle.mls_laws.proofs.OneClient.{IsBlock, IsWhole, whole, none_found, own_share, completes_where_new, whole_end, no_front}
 

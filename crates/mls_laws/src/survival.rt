@@ -3,30 +3,30 @@
 ghost use Rattle.std.specs.Prelude.{◌≡◌, ℕ, List, [], ◌∷◌, ◌++◌, true, false, cond};
 ghost use Rattle.std.specs.List.{list_any};
 ghost use Rattle.mls_model.specs.Studies.{Sizes};
-ghost use Rattle.mls_model.specs.Histories.{Event};
+ghost use Rattle.mls_model.specs.Histories.{LaneEvent};
 ghost use Rattle.mls_model.specs.Survival.{is_save, is_crash, surviving};
 ghost use Rattle.mls_model.specs.Fitting.{fitting, fitting_piece};
 ghost use Rattle.mls_model.specs.Outcomes.{outcome, outcomes, counts};
 ghost use Rattle.std.specs.Option.{option_to_list};
-ghost use Rattle.mls_laws.specs.LastSave.{before_last_save};
-ghost use Rattle.mls_laws.specs.OneMore.{counted};
+ghost use Rattle.mls_model.specs.Survival.{before_last_save};
+ghost use Rattle.mls_model.specs.Outcomes.{counted};
 
 /// What survives of a history without a crash, of one with an event more, and of one that ends after its last crash.
 pub fn what_survives()
-    ensures no_crash { (history : List Event) → list_any is_crash history ≡ false → surviving history ≡ history }
-    ensures one_more { (history : List Event) (e : Event) → is_crash e ≡ false → surviving (history ++ e ∷ []) ≡ surviving history ++ e ∷ [] }
-    ensures after_last_crash { (before : List Event) (e : Event) (after : List Event) → list_any is_crash after ≡ false → (kept : List Event) × (surviving (before ++ e ∷ after) ≡ kept ++ e ∷ after) }
+    ensures no_crash { (history : List LaneEvent) → list_any is_crash history ≡ false → surviving history ≡ history }
+    ensures one_more { (history : List LaneEvent) (e : LaneEvent) → is_crash e ≡ false → surviving (history ++ e ∷ []) ≡ surviving history ++ e ∷ [] }
+    ensures after_last_crash { (before : List LaneEvent) (e : LaneEvent) (after : List LaneEvent) → list_any is_crash after ≡ false → (kept : List LaneEvent) × (surviving (before ++ e ∷ after) ≡ kept ++ e ∷ after) }
 {}
 
 /// A crash brings back what came before the last save. The save itself does not outlive the crash.
 pub fn crash_goes_back()
-    ensures crash { (history : List Event) (e : Event) → is_crash e ≡ true → surviving (history ++ e ∷ []) ≡ surviving (before_last_save history) ++ e ∷ [] }
-    ensures save { (history : List Event) (e : Event) → before_last_save (history ++ e ∷ []) ≡ cond (is_save e) history (before_last_save history) }
+    ensures crash { (history : List LaneEvent) (e : LaneEvent) → is_crash e ≡ true → surviving (history ++ e ∷ []) ≡ surviving (before_last_save history) ++ e ∷ [] }
+    ensures save { (history : List LaneEvent) (e : LaneEvent) → before_last_save (history ++ e ∷ []) ≡ cond (is_save e) history (before_last_save history) }
 {}
 
 /// One more surviving event has its outcome, and changes nothing of those before it.
 pub fn one_more_event()
-    ensures pieces { (s : Sizes) (rank : ℕ) (events : List Event) (e : Event) → fitting s rank (events ++ e ∷ []) ≡ fitting s rank events ++ option_to_list (fitting_piece s rank e) }
-    ensures outcomes { (s : Sizes) (rank : ℕ) (events : List Event) (e : Event) → outcomes s rank (events ++ e ∷ []) ≡ outcomes s rank events ++ outcome s rank events e ∷ [] }
-    ensures counts { (s : Sizes) (rank : ℕ) (events : List Event) (e : Event) → counts s rank (events ++ e ∷ []) ≡ counted (counts s rank events) (outcome s rank events e) }
+    ensures pieces { (s : Sizes) (rank : ℕ) (events : List LaneEvent) (e : LaneEvent) → fitting s rank (events ++ e ∷ []) ≡ fitting s rank events ++ option_to_list (fitting_piece s rank e) }
+    ensures outcomes { (s : Sizes) (rank : ℕ) (events : List LaneEvent) (e : LaneEvent) → outcomes s rank (events ++ e ∷ []) ≡ outcomes s rank events ++ outcome s rank events e ∷ [] }
+    ensures counts { (s : Sizes) (rank : ℕ) (events : List LaneEvent) (e : LaneEvent) → counts s rank (events ++ e ∷ []) ≡ counted (counts s rank events) (outcome s rank events e) }
 {}

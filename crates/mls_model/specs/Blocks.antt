@@ -5,17 +5,17 @@ use Rattle.mls_model.specs.declared.blocks.Span.{Span}
 use Rattle.mls_model.specs.Numbers.{below}
 use Rattle.mls_model.specs.Studies.{Sizes}
 
--- share i of n over m cells: from floor(i·m/n) up to and without floor((i+1)·m/n)
-abbrev pub share : ℕ → ℕ → ℕ → Span
-share m n i = record { first = (i * m) / n; end = ((i + 1) * m) / n }
+-- nth_span i of n over m cells: from floor(i·m/n) up to and without floor((i+1)·m/n)
+abbrev pub nth_span : ℕ → ℕ → ℕ → Span
+nth_span m n i = record { first = (i * m) / n; end = ((i + 1) * m) / n }
 
 -- the block of a rank
 abbrev pub block : Sizes → ℕ → Span
-block s rank = share s.cells s.ranks rank
+block s rank = nth_span s.cells s.ranks rank
 
 -- the part of a client
 abbrev pub part : Sizes → ℕ → Span
-part s client = share s.cells s.clients client
+part s client = nth_span s.cells s.clients client
 
 abbrev pub is_in_span : Span → ℕ → Bool
 is_in_span span x = nat_le span.first x && nat_lt x span.end
@@ -31,7 +31,7 @@ meet a b = record { first = max a.first b.first; end = max (max a.first b.first)
 abbrev pub overlap : Sizes → ℕ → ℕ → Span
 overlap s rank client = meet (block s rank) (part s client)
 
--- whether a client's part and a rank's block share a cell
+-- whether a client's part and a rank's block nth_span a cell
 abbrev pub overlaps : Sizes → ℕ → ℕ → Bool
 overlaps s rank client = nat_lt 0 (width (overlap s rank client))
 

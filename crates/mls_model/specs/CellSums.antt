@@ -16,6 +16,31 @@ pub record CellSums : Type 0 where
   pub above : List ℕ
   pub products : List ℕ
 
+-- the places of the sums among the products: of A and B, and of parameter k
+abbrev pub place_a : ℕ
+place_a = 0
+
+abbrev pub place_b : ℕ
+place_b = 1
+
+abbrev pub place_aa : ℕ
+place_aa = 2
+
+abbrev pub place_bb : ℕ
+place_bb = 3
+
+abbrev pub place_c : ℕ → ℕ
+place_c k = 4 + 4 * k
+
+abbrev pub place_cc : ℕ → ℕ
+place_cc k = 4 + 4 * k + 1
+
+abbrev pub place_ac : ℕ → ℕ
+place_ac k = 4 + 4 * k + 2
+
+abbrev pub place_bc : ℕ → ℕ
+place_bc k = 4 + 4 * k + 3
+
 -- a sample of a row, and the samples A and B of all rows
 abbrev pub sample : ℕ → List ℕ → ℕ
 sample j row = slice_index row j

@@ -1,5 +1,5 @@
 -- Which events are pieces that a rank takes, and why others are foreign to it.
-use Rattle.std.specs.Prelude.{ℕ, ◌+◌, Bool, not, ◌&&◌, cond, List, Option, Some, None, nat_lt, ◌==◌}
+use Rattle.std.specs.Prelude.{◌≡◌, ℕ, ◌+◌, ◌<◌, Bool, true, not, ◌&&◌, cond, List, Option, Some, None, nat_lt, ◌==◌}
 use Rattle.std.specs.List.{filter_map}
 use Rattle.mls_model.specs.declared.lanes.LaneKind.{LaneKind}
 use Rattle.mls_model.specs.declared.lanes.LaneKind.TheVariants.{Client, Control}
@@ -8,7 +8,7 @@ use Rattle.mls_model.specs.declared.outcomes.Reason.TheVariants as reason
 use Rattle.mls_model.specs.Studies.{Sizes, planes}
 use Rattle.mls_model.specs.Blocks.{overlap, overlaps, width}
 use Rattle.mls_model.specs.Frames.{Frame, Piece, piece, save, crash}
-use Rattle.mls_model.specs.Histories.{Event}
+use Rattle.mls_model.specs.Histories.{LaneEvent}
 
 -- the piece's cells are those of the rank's block that its client sends, and there are some
 abbrev pub has_its_cells : Sizes → ℕ → Piece → Bool
@@ -32,7 +32,7 @@ frame_reason s rank Client crash = Some reason.LaneKind
 frame_reason s rank Control (piece p) = Some reason.LaneKind
 frame_reason s rank _ _ = None
 
-abbrev pub foreign_reason : Sizes → ℕ → Event → Option Reason
+abbrev pub foreign_reason : Sizes → ℕ → LaneEvent → Option Reason
 foreign_reason s rank e = frame_reason s rank e.kind e.frame
 
 -- the piece of an event, where it is one on a client lane and none of the reasons holds
@@ -40,9 +40,19 @@ abbrev pub frame_piece : Sizes → ℕ → LaneKind → Frame → Option Piece
 frame_piece s rank Client (piece p) = elim (piece_reason s rank p) [ None ↦ Some p | Some r ↦ None ]
 frame_piece s rank _ _ = None
 
-abbrev pub fitting_piece : Sizes → ℕ → Event → Option Piece
+abbrev pub fitting_piece : Sizes → ℕ → LaneEvent → Option Piece
 fitting_piece s rank e = frame_piece s rank e.kind e.frame
 
 -- the fitting pieces among events, in order
-unfoldable pub fitting : Sizes → ℕ → List Event → List Piece
+unfoldable pub fitting : Sizes → ℕ → List LaneEvent → List Piece
 fitting s rank events = filter_map (fitting_piece s rank) events
+
+-- none of the reasons holds of a piece
+pub record Fits (s : Sizes) (rank : ℕ) (p : Piece) : Type 0 where
+  pub rows : p.rows ≡ s.parameters + 2
+  pub group : p.group < s.groups
+  pub plane : p.plane < planes s
+  pub client : p.client < s.clients
+  pub some : overlaps s rank p.client ≡ true
+  pub first : p.first ≡ (overlap s rank p.client).first
+  pub count : p.count ≡ width (overlap s rank p.client)

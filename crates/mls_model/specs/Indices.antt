@@ -2,7 +2,7 @@
 use Rattle.std.specs.Prelude.{ℕ, ◌+◌, ◌*◌, ◌||◌, cond, List, ℤ, pos, negsuc, ◌-ℤ◌, Option, Some, None, nat_le, ◌==◌, unsigned_abs, neg_ℤ}
 use Rattle.std.specs.Option.{option_map}
 use Rattle.mls_model.specs.Numbers.{greatest}
-use Rattle.mls_model.specs.Statistics.{column, covariance, variance}
+use Rattle.mls_model.specs.Statistics.{column, covariance_top, spread_top}
 
 -- the greatest whole q with q² · v · w ≤ 10^12 · c². It is at most 1,000,000 where c² ≤ v · w.
 unfoldable pub millionths : ℕ → ℕ → ℕ → ℕ
@@ -19,7 +19,7 @@ rho6 c v w = cond ((v == 0) || (w == 0)) None (Some (signed_as c (millionths (un
 
 -- of two columns
 abbrev pub correlation : List ℤ → List ℤ → Option ℤ
-correlation xs ys = rho6 (covariance xs ys) (variance xs) (variance ys)
+correlation xs ys = rho6 (covariance_top xs ys) (spread_top xs) (spread_top ys)
 
 -- the first-order index of parameter k: of B and C^k
 abbrev pub first_index : ℕ → List (List ℤ) → Option ℤ

@@ -1,6 +1,6 @@
 -- A lane's bytes as frames, and a tape's bytes as lanes.
-use Rattle.std.specs.Prelude.{◌≡◌, ℕ, zero, suc, ◌+◌, Bool, not, ◌&&◌, ◌||◌, cond, List, [], ◌∷◌, ◌++◌, length, take, drop, map, Result, Ok, Err, nat_lt, ◌==◌, codes}
-use Rattle.std.specs.List.{AllByRecursion}
+use Rattle.std.specs.Prelude.{◌≡◌, ℕ, zero, suc, ◌+◌, ◌^◌, ◌<◌, ◌≤◌, Bool, true, not, ◌&&◌, ◌||◌, cond, List, [], ◌∷◌, ◌++◌, length, take, drop, map, Result, Ok, Err, nat_lt, ◌==◌, codes}
+use Rattle.std.specs.List.{AllByRecursion, flat_map}
 use Rattle.std.specs.Int.{Width, w8, w16, w32, byte_len, from_be_bytes}
 use Rattle.mls_model.specs.declared.lanes.LaneKind.{LaneKind}
 use Rattle.mls_model.specs.declared.lanes.LaneKind.TheVariants as kinds
@@ -11,7 +11,7 @@ use Rattle.mls_model.specs.declared.lanes.FrameFault.TheVariants.{BadKind, BadLe
 use Rattle.mls_model.specs.declared.lanes.TapeWhy.{TapeWhy}
 use Rattle.mls_model.specs.declared.lanes.TapeWhy.TheVariants as why
 use Rattle.mls_model.specs.Numbers.{joined, same_bytes}
-use Rattle.mls_model.specs.Frames.{Frame, IsFrame, spelling, Sight, whole, more, bad, sight}
+use Rattle.mls_model.specs.Frames.{Frame, IsFrame, spelling, u16, u32, Sight, whole, more, bad, sight}
 
 -- The events of a lane: the longest list of frames whose joined spellings are a prefix of its bytes. rest is what is left.
 pub record AreLaneEvents (bytes : List ℕ) (frames : List Frame) (rest : List ℕ) : Type 0 where
@@ -120,19 +120,19 @@ lanes_at (suc n) ranks at bytes = do
   Ok (lane.0 ∷ others)
 
 -- the samples byte, which version 2 alone has
-unfoldable pub samples_at : Bool → ℕ → List ℕ → Read (ℕ × List ℕ)
-samples_at signed version bytes = cond (version == 1) (Ok (6, bytes)) (do
+unfoldable pub samples_byte : Bool → ℕ → List ℕ → Read (ℕ × List ℕ)
+samples_byte signed version bytes = cond (version == 1) (Ok (6, bytes)) (do
   kind ← number_at w8 6 bytes
   cond (kind.0 == cond signed 1 0) (Ok (7, kind.1)) (refused 6 why.Samples))
 
--- the lanes of a tape for so many ranks and a sample kind, before their events are counted
-unfoldable pub lanes_of : ℕ → Bool → List ℕ → Read (List LaneBytes)
-lanes_of ranks signed bytes = do
+-- the lanes of a tape for so many ranks and a sample kind, before their events are with_events
+unfoldable pub lane_bytes_of : ℕ → Bool → List ℕ → Read (List LaneBytes)
+lane_bytes_of ranks signed bytes = do
   magic ← bytes_at 4 0 bytes
   marked ← cond (same_bytes magic.0 (codes "MTAP")) (Ok magic) (refused 0 why.Magic)
   version ← number_at w16 4 marked.1
   known ← cond ((version.0 == 2) || ((version.0 == 1) && not signed)) (Ok version) (refused 4 why.Version)
-  head ← samples_at signed known.0 known.1
+  head ← samples_byte signed known.0 known.1
   count ← number_at w32 head.0 head.1
   some ← cond (nat_lt 65535 count.0) (refused head.0 why.TooManyLanes) (Ok count)
   lanes_at some.0 ranks (head.0 + 4) some.1
@@ -142,15 +142,68 @@ abbrev pub most_events : ℕ
 most_events = 16777216
 
 -- the lanes with their events, of which there are at most so many; before counts those of earlier lanes
-unfoldable pub counted : ℕ → List LaneBytes → Read (List Lane)
-counted before [] = Ok []
-counted before (lane ∷ lanes) =
+unfoldable pub with_events : ℕ → List LaneBytes → Read (List Lane)
+with_events before [] = Ok []
+with_events before (lane ∷ lanes) =
     cond (nat_lt most_events (before + length (lane_frames lane.bytes))) (refused lane.at why.TooManyEvents) (do
-      others ← counted (before + length (lane_frames lane.bytes)) lanes
+      others ← with_events (before + length (lane_frames lane.bytes)) lanes
       Ok (lane_of lane.rank lane.kind lane.bytes ∷ others))
 
 -- the tape that the bytes are, or the first fault
 unfoldable pub tape_of : ℕ → Bool → List ℕ → Read (List Lane)
 tape_of ranks signed bytes = do
-  lanes ← lanes_of ranks signed bytes
-  counted 0 lanes
+  lanes ← lane_bytes_of ranks signed bytes
+  with_events 0 lanes
+
+-- A tape's spelling, beside the reader. A lane is spelled from its rank, kind and bytes.
+pub record SpelledLane : Type 0 where
+  pub rank : ℕ
+  pub kind : LaneKind
+  pub bytes : List ℕ
+
+abbrev pub kind_code : LaneKind → ℕ
+kind_code kinds.Client = 0
+kind_code kinds.Control = 1
+
+-- kind, rank, length, bytes
+unfoldable pub lane_spelling : SpelledLane → List ℕ
+lane_spelling lane = kind_code lane.kind ∷ (u16 lane.rank ++ (u32 (length lane.bytes) ++ lane.bytes))
+
+-- the samples byte, which version 2 alone has
+abbrev pub samples_spelling : Bool → ℕ → List ℕ
+samples_spelling signed version = cond (version == 1) [] (cond signed 1 0 ∷ [])
+
+-- the spelling of a tape of a sample kind and version with these lanes
+unfoldable pub tape_bytes : Bool → ℕ → List SpelledLane → List ℕ
+tape_bytes signed version lanes = codes "MTAP" ++ (u16 version ++ (samples_spelling signed version ++ (u32 (length lanes) ++ flat_map lane_spelling lanes)))
+
+-- the versions of a sample kind: 1 and 2 under u16, 2 alone under i16
+abbrev pub is_tape_version : Bool → ℕ → Bool
+is_tape_version signed version = (version == 2) || ((version == 1) && not signed)
+
+-- a lane of one of so many ranks, whose numbers fit their fields
+pub record IsSpelledLane (ranks : ℕ) (lane : SpelledLane) : Type 0 where
+  pub rank : lane.rank < ranks
+  pub rank_fits : lane.rank < 2 ^ 16
+  pub size_fits : length lane.bytes < 2 ^ 32
+  pub bytes : AllByRecursion (λ b. b < 256) lane.bytes
+
+-- the number of all lanes' events
+abbrev pub event_sum : List SpelledLane → ℕ
+event_sum [] = 0
+event_sum (lane ∷ lanes) = length (lane_frames lane.bytes) + event_sum lanes
+
+-- a spelled lane with its events and its end
+abbrev pub lane_spelled : SpelledLane → Lane
+lane_spelled lane = lane_of lane.rank lane.kind lane.bytes
+
+-- The bytes spell a tape of so many ranks and a sample kind that has these lanes.
+pub record SpellsTape (ranks : ℕ) (signed : Bool) (bytes : List ℕ) (lanes : List Lane) : Type 0 where
+  pub version : ℕ
+  pub spelled : List SpelledLane
+  pub version_is : is_tape_version signed version ≡ true
+  pub is_spelling : bytes ≡ tape_bytes signed version spelled
+  pub few_lanes : length spelled ≤ 65535
+  pub each : AllByRecursion (IsSpelledLane ranks) spelled
+  pub few_events : event_sum spelled ≤ most_events
+  pub are_lanes : lanes ≡ map lane_spelled spelled

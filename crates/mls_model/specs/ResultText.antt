@@ -10,16 +10,17 @@ use Rattle.mls_model.specs.declared.lanes.LaneLine.{LaneLine}
 use Rattle.mls_model.specs.declared.outcomes.Counts.{Counts}
 use Rattle.mls_model.specs.declared.studies.Statistic.TheVariants.{Power, Extrema, Exceed, Sobol}
 use Rattle.mls_model.specs.Numbers.{below, element, joined}
-use Rattle.mls_model.specs.Studies.{Study, Parameter, plane_of, shows}
+use Rattle.mls_model.specs.Studies.{Study, Sizes, Parameter, plane_of, shows}
 use Rattle.mls_model.specs.Blocks.{rank_of}
+use Rattle.mls_model.specs.Frames.{Piece}
 use Rattle.mls_model.specs.Samples.{unshifted}
 use Rattle.mls_model.specs.Lanes.{Lane, line_of}
-use Rattle.mls_model.specs.Histories.{Event, history}
+use Rattle.mls_model.specs.Histories.{LaneEvent, history}
 use Rattle.mls_model.specs.Survival.{surviving}
 use Rattle.mls_model.specs.Fitting.{fitting}
 use Rattle.mls_model.specs.Outcomes.{counts}
 use Rattle.mls_model.specs.AcceptedRows.{rows}
-use Rattle.mls_model.specs.Statistics.{column, outputs, total, squares, cubes, fourths, variance_top, third_top, least, most, above, covariance, variance}
+use Rattle.mls_model.specs.Statistics.{column, outputs, total, squares, cubes, fourths, variance_top, third_top, least, most, above, covariance_top, spread_top}
 use Rattle.mls_model.specs.Indices.{first_index, total_index}
 
 -- melissa-result 1
@@ -134,7 +135,7 @@ sobol_words name first rest cov_b cov_a var_a var_b var_c = joined (codes "sobol
 
 -- of a parameter, from rows of values
 unfoldable pub sobol_line : ℕ → Parameter → List (List ℤ) → List ℕ
-sobol_line k parameter rs = sobol_words parameter.name (first_index k rs) (total_index k rs) (covariance (column 1 rs) (column (2 + k) rs)) (covariance (column 0 rs) (column (2 + k) rs)) (variance (column 0 rs)) (variance (column 1 rs)) (variance (column (2 + k) rs))
+sobol_line k parameter rs = sobol_words parameter.name (first_index k rs) (total_index k rs) (covariance_top (column 1 rs) (column (2 + k) rs)) (covariance_top (column 0 rs) (column (2 + k) rs)) (spread_top (column 0 rs)) (spread_top (column 1 rs)) (spread_top (column (2 + k) rs))
 
 unfoldable pub sobol_lines : Study → List (List ℤ) → List ℕ
 sobol_lines study rs = flat_map (λ (p : ℕ × Parameter). sobol_line p.0 p.1 rs) (enumerate_from 0 study.parameters)
@@ -183,20 +184,31 @@ rows_said study table step field x = cell_text study step field x (table (plane_
 abbrev pub text_of : Study → List Counts → List LaneLine → (ℕ → ℕ → List (List ℤ)) → List ℕ
 text_of study all lines table = whole_text study all lines (rows_said study table)
 
--- the surviving events of a rank under a schedule
-abbrev pub survivors : List Lane → List (List ℕ) → ℕ → List Event
-survivors lanes orders rank = surviving (history lanes (unwrap_or (element orders rank) []))
+-- the fitting pieces that survive in a rank's history
+abbrev pub pieces_of : Sizes → ℕ → List LaneEvent → List Piece
+pieces_of s rank history = fitting s rank (surviving history)
 
 -- the rows of a plane and cell, at the rank whose block holds the cell
-unfoldable pub rows_of : Study → List Lane → List (List ℕ) → ℕ → ℕ → List (List ℤ)
-rows_of study lanes orders plane x = elim (rank_of study.sizes x) [ None ↦ [] | Some rank ↦ rows study.sizes rank plane x (fitting study.sizes rank (survivors lanes orders rank)) ]
+abbrev pub history_rows : Sizes → (ℕ → List LaneEvent) → ℕ → ℕ → List (List ℤ)
+history_rows s histories plane x = elim (rank_of s x) [ None ↦ [] | Some rank ↦ rows s rank plane x (pieces_of s rank (histories rank)) ]
 
-unfoldable pub counts_of : Study → List Lane → List (List ℕ) → List Counts
-counts_of study lanes orders = map (λ rank. counts study.sizes rank (survivors lanes orders rank)) (below study.sizes.ranks)
+abbrev pub history_counts : Sizes → (ℕ → List LaneEvent) → List Counts
+history_counts s histories = map (λ rank. counts s rank (surviving (histories rank))) (below s.ranks)
+
+-- the text of a study whose ranks have these histories, with these lane lines
+unfoldable pub history_text : Study → (ℕ → List LaneEvent) → List LaneLine → List ℕ
+history_text study histories lines = text_of study (history_counts study.sizes histories) lines (history_rows study.sizes histories)
+
+-- a rank's list in a schedule, and its history
+abbrev pub order_at : List (List ℕ) → ℕ → List ℕ
+order_at orders rank = unwrap_or (element orders rank) []
+
+abbrev pub histories_of : List Lane → List (List ℕ) → ℕ → List LaneEvent
+histories_of lanes orders rank = history lanes (order_at orders rank)
 
 unfoldable pub lines_of : List Lane → List LaneLine
 lines_of lanes = map (λ (p : ℕ × Lane). line_of p.0 p.1) (enumerate_from 0 lanes)
 
 -- The result text of a study, the lanes of a tape and a schedule.
 unfoldable pub result_text : Study → List Lane → List (List ℕ) → List ℕ
-result_text study lanes orders = text_of study (counts_of study lanes orders) (lines_of lanes) (rows_of study lanes orders)
+result_text study lanes orders = history_text study (histories_of lanes orders) (lines_of lanes)

@@ -62,8 +62,8 @@ sum_pairs f (x ∷ xs) [] = pos 0
 sum_pairs f (x ∷ xs) (y ∷ ys) = f x y +ℤ sum_pairs f xs ys
 
 -- The whole number c with n · c = Σ (n · x − X) (n · y − Y), and 0 for no rows.
-unfoldable pub covariance : List ℤ → List ℤ → ℤ
-covariance xs ys = int_div (sum_pairs (λ x y. deviation xs x *ℤ deviation ys y) xs ys) (size xs)
+unfoldable pub covariance_top : List ℤ → List ℤ → ℤ
+covariance_top xs ys = int_div (sum_pairs (λ x y. deviation xs x *ℤ deviation ys y) xs ys) (size xs)
 
-abbrev pub variance : List ℤ → ℕ
-variance xs = unsigned_abs (covariance xs xs)
+abbrev pub spread_top : List ℤ → ℕ
+spread_top xs = unsigned_abs (covariance_top xs xs)

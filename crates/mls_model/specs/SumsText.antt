@@ -7,7 +7,7 @@ use Rattle.mls_model.specs.declared.outcomes.Counts.{Counts}
 use Rattle.mls_model.specs.declared.studies.Statistic.TheVariants.{Power, Extrema, Exceed, Sobol}
 use Rattle.mls_model.specs.Studies.{Study, Parameter, plane_of, shows}
 use Rattle.mls_model.specs.Samples.{unshifted}
-use Rattle.mls_model.specs.CellSums.{CellSums}
+use Rattle.mls_model.specs.CellSums.{CellSums, place_a, place_b, place_aa, place_bb, place_c, place_cc, place_ac, place_bc}
 use Rattle.mls_model.specs.Indices.{rho6}
 use Rattle.mls_model.specs.ResultText.{step_line, power_line, variance_line, third_line, extrema_line, power_words, variance_words, third_words, extrema_words, exceed_words, sobol_words, whole_text}
 
@@ -34,35 +34,35 @@ abbrev pub fourth_power : ℕ → CellSums → ℤ
 fourth_power h c = pos (c.p4 + 6 * (h * h) * c.p2 + h * h * (h * h) * samples c) -ℤ pos (4 * h * c.p3 + 4 * (h * h * h) * c.p1)
 
 -- V = N · P2 − P1² and U = N² · P3 − 3 · N · P1 · P2 + 2 · P1³
-abbrev pub variance_of : CellSums → ℤ
-variance_of c = pos (samples c * c.p2) -ℤ pos (c.p1 * c.p1)
+abbrev pub variance_top_of : CellSums → ℤ
+variance_top_of c = pos (samples c * c.p2) -ℤ pos (c.p1 * c.p1)
 
-abbrev pub third_of : CellSums → ℤ
-third_of c = pos (samples c * samples c * c.p3 + 2 * (c.p1 * c.p1 * c.p1)) -ℤ pos (3 * (samples c * c.p1 * c.p2))
+abbrev pub third_top_of : CellSums → ℤ
+third_top_of c = pos (samples c * samples c * c.p3 + 2 * (c.p1 * c.p1 * c.p1)) -ℤ pos (3 * (samples c * c.p1 * c.p2))
 
 -- n · Σxy − X · Y, the sums being those with these numbers among the products
-abbrev pub covariance_of : CellSums → ℕ → ℕ → ℕ → ℤ
-covariance_of c x y xy = pos (c.rows * slice_index c.products xy) -ℤ pos (slice_index c.products x * slice_index c.products y)
+abbrev pub covariance_top_of : CellSums → ℕ → ℕ → ℕ → ℤ
+covariance_top_of c x y xy = pos (c.rows * slice_index c.products xy) -ℤ pos (slice_index c.products x * slice_index c.products y)
 
 -- n · Σx² − X²
-abbrev pub spread_of : CellSums → ℕ → ℕ → ℕ
-spread_of c x xx = c.rows * slice_index c.products xx - slice_index c.products x * slice_index c.products x
+abbrev pub spread_top_of : CellSums → ℕ → ℕ → ℕ
+spread_top_of c x xx = c.rows * slice_index c.products xx - slice_index c.products x * slice_index c.products x
 
 -- c(A, C^k), c(B, C^k), v(A), v(B) and v(C^k)
 abbrev pub cov_a : CellSums → ℕ → ℤ
-cov_a c k = covariance_of c 0 (4 + 4 * k) (4 + 4 * k + 2)
+cov_a c k = covariance_top_of c place_a (place_c k) (place_ac k)
 
 abbrev pub cov_b : CellSums → ℕ → ℤ
-cov_b c k = covariance_of c 1 (4 + 4 * k) (4 + 4 * k + 3)
+cov_b c k = covariance_top_of c place_b (place_c k) (place_bc k)
 
 abbrev pub var_a : CellSums → ℕ
-var_a c = spread_of c 0 2
+var_a c = spread_top_of c place_a place_aa
 
 abbrev pub var_b : CellSums → ℕ
-var_b c = spread_of c 1 3
+var_b c = spread_top_of c place_b place_bb
 
 abbrev pub var_c : CellSums → ℕ → ℕ
-var_c c k = spread_of c (4 + 4 * k) (4 + 4 * k + 1)
+var_c c k = spread_top_of c (place_c k) (place_cc k)
 
 -- the first and the total index of parameter k
 abbrev pub first_of : CellSums → ℕ → Option ℤ
@@ -73,7 +73,7 @@ total_of c k = option_map (λ r. pos 1000000 -ℤ r) (rho6 (cov_a c k) (var_a c)
 
 -- the power lines, in short ones where there is no row
 unfoldable pub sums_powers : Bool → CellSums → List ℕ
-sums_powers signed c = cond (c.rows == 0) (power_line [] ++ (variance_line [] ++ third_line [])) (power_words (first_power (height signed) c) (second_power (height signed) c) (third_power (height signed) c) (fourth_power (height signed) c) ++ (variance_words (variance_of c) (samples c) ++ third_words (third_of c) (samples c)))
+sums_powers signed c = cond (c.rows == 0) (power_line [] ++ (variance_line [] ++ third_line [])) (power_words (first_power (height signed) c) (second_power (height signed) c) (third_power (height signed) c) (fourth_power (height signed) c) ++ (variance_words (variance_top_of c) (samples c) ++ third_words (third_top_of c) (samples c)))
 
 unfoldable pub sums_extrema : Bool → CellSums → List ℕ
 sums_extrema signed c = cond (c.rows == 0) (extrema_line []) (extrema_words (unshifted signed c.least) (unshifted signed c.greatest))

@@ -44,8 +44,8 @@ pub record AreLowered (h : ℕ) (p : Power) (powers : Powers) : Type 0 where
   pub fourth : powers.p4 ≡ pos (fourth_of p + 6 * (h * h) * second_of p + h * h * (h * h) * count_of p) -ℤ pos (4 * h * third_of p + 4 * (h * h * h) * first_of p)
 
 -- V and U in one pass
-abbrev pub variance_in : Power → ℤ
-variance_in p = pos (count_of p * second_of p) -ℤ pos (first_of p * first_of p)
+abbrev pub variance_top_in : Power → ℤ
+variance_top_in p = pos (count_of p * second_of p) -ℤ pos (first_of p * first_of p)
 
-abbrev pub third_moment_in : Power → ℤ
-third_moment_in p = pos (count_of p * count_of p * third_of p + 2 * (first_of p * first_of p * first_of p)) -ℤ pos (3 * (count_of p * first_of p * second_of p))
+abbrev pub third_top_in : Power → ℤ
+third_top_in p = pos (count_of p * count_of p * third_of p + 2 * (first_of p * first_of p * first_of p)) -ℤ pos (3 * (count_of p * first_of p * second_of p))

@@ -34,7 +34,7 @@ impl Power {
     ghost use Rattle.mls_model.specs.Statistics.{variance_top, third_top};
     ghost use Rattle.mls_power.specs.PowerSums.{HoldsSums, AreInRange};
     ghost use Rattle.mls_power.specs.Rules.{AreSums};
-    ghost use Rattle.mls_power.specs.Standing.{count_of, first_of, second_of, third_of, fourth_of, StandsFor, ArePowers, AreLowered, variance_in, third_moment_in};
+    ghost use Rattle.mls_power.specs.Standing.{count_of, first_of, second_of, third_of, fourth_of, StandsFor, ArePowers, AreLowered, variance_top_in, third_top_in};
     ghost use Rattle.mls_power.specs.PowerSums.{first_in, second_in, third_in, fourth_in};
     ghost use Rattle.mls_model.specs.SumsText.{height};
 
@@ -191,7 +191,7 @@ impl Power {
 
     /// V of the samples: with N samples, N · V is the sum of (N · w − p1)², and the variance is V / (N · (N − 1)). It is the same for the values that they are kept for.
     pub fn variance_top(&self) -> i128
-        ensures formula { result ≡ variance_in self.now }
+        ensures formula { result ≡ variance_top_in self.now }
         ensures samples { (ws : List ℕ) → StandsFor self.now ws → result ≡ variance_top (map pos ws) }
         ensures values { (signed : Bool) (ws : List ℕ) → StandsFor self.now ws → result ≡ variance_top (map (unshifted signed) ws) }
     {
@@ -204,7 +204,7 @@ impl Power {
 
     /// U of the samples: with N samples, N · U is the sum of (N · w − p1)³, and the third central moment is U / N³. It is the same for the values that they are kept for.
     pub fn third_top(&self) -> i128
-        ensures formula { result ≡ third_moment_in self.now }
+        ensures formula { result ≡ third_top_in self.now }
         ensures samples { (ws : List ℕ) → StandsFor self.now ws → result ≡ third_top (map pos ws) }
         ensures values { (signed : Bool) (ws : List ℕ) → StandsFor self.now ws → result ≡ third_top (map (unshifted signed) ws) }
     {

@@ -10,14 +10,14 @@ use Rattle.mls_model.specs.declared.outcomes.Counts.{Counts}
 use Rattle.mls_model.specs.Places.{gathered}
 use Rattle.mls_model.specs.Studies.{Sizes}
 use Rattle.mls_model.specs.Frames.{Frame, Piece, piece, beat, bye, save, crash, hello, welcome, refuse}
-use Rattle.mls_model.specs.Histories.{Event}
+use Rattle.mls_model.specs.Histories.{LaneEvent}
 use Rattle.mls_model.specs.Survival.{is_crash, surviving}
 use Rattle.mls_model.specs.Fitting.{fitting, frame_piece, fitting_piece}
 use Rattle.mls_model.specs.Outcomes.{outcome, outcomes, tally, counts}
 use Rattle.mls_model.specs.Standing.{Table, empty_table}
 use Rattle.mls_ledger.specs.MarkSets.{MarkSet, is_marked, marked}
-use Rattle.mls_laws.specs.LastSave.{before_last_save}
-use Rattle.mls_laws.specs.OneMore.{counted}
+use Rattle.mls_model.specs.Survival.{before_last_save}
+use Rattle.mls_model.specs.Outcomes.{counted}
 use Rattle.mls_laws.proofs.Surviving.{surviving_more, surviving_crash}
 use Rattle.mls_laws.proofs.Outcomes.{fitting_more, counts_more}
 use Rattle.mls_assembly.specs.Pendings.{Pends}
@@ -40,12 +40,12 @@ pub holds_none : (s : Sizes) (rank : ℕ) (marks : ℕ → ℕ → Bool) (groups
     → KeepsRows s rank marks groups stands (fitting s rank (surviving []))
 holds_none s rank marks groups stands empty none rows = subst (KeepsRows s rank marks groups stands) (fitting_none s rank) (keeps_none s rank marks groups stands empty none rows)
 
-pub outcome_is : (s : Sizes) (rank : ℕ) (before : List Event) (kind : LaneKind) (frame : Frame) → outcome_after s rank (fitting s rank before) kind frame ≡ outcome s rank before (record { kind = kind; frame = frame })
+pub outcome_is : (s : Sizes) (rank : ℕ) (before : List LaneEvent) (kind : LaneKind) (frame : Frame) → outcome_after s rank (fitting s rank before) kind frame ≡ outcome s rank before (record { kind = kind; frame = frame })
 unfolding outcome
 outcome_is s rank before kind frame = refl
 
 -- one more event that is no crash
-pub counts_step : (s : Sizes) (rank : ℕ) (history : List Event) (e : Event) (before after : Counts) (o : Outcome) → is_crash e ≡ false
+pub counts_step : (s : Sizes) (rank : ℕ) (history : List LaneEvent) (e : LaneEvent) (before after : Counts) (o : Outcome) → is_crash e ≡ false
     → before ≡ counts s rank (surviving history) → o ≡ outcome s rank (surviving history) e → after ≡ counted before o → after ≡ counts s rank (surviving (history ++ e ∷ []))
 counts_step s rank history e before after o none is was so =
     so
@@ -54,12 +54,12 @@ counts_step s rank history e before after o none is was so =
     ∙ (sym (counts_more s rank (surviving history) e)
     ∙ ap (counts s rank) (sym (surviving_more history e none)))))
 
-pub pieces_step : (s : Sizes) (rank : ℕ) (history : List Event) (e : Event) → is_crash e ≡ false
+pub pieces_step : (s : Sizes) (rank : ℕ) (history : List LaneEvent) (e : LaneEvent) → is_crash e ≡ false
     → fitting s rank (surviving history) ++ option_to_list (fitting_piece s rank e) ≡ fitting s rank (surviving (history ++ e ∷ []))
 pieces_step s rank history e none = sym (ap (fitting s rank) (surviving_more history e none) ∙ fitting_more s rank (surviving history) e)
 
 -- what a step says of the fitting pieces, said of the history
-pub holds_step : {F : Type 0} (stands : F → Table → Type 0) (s s1 s2 : Sizes) (r r1 r2 : ℕ) (m1 m2 : MarkSet) (f1 f2 : F) (history : List Event) (e : Event) → is_crash e ≡ false
+pub holds_step : {F : Type 0} (stands : F → Table → Type 0) (s s1 s2 : Sizes) (r r1 r2 : ℕ) (m1 m2 : MarkSet) (f1 f2 : F) (history : List LaneEvent) (e : LaneEvent) → is_crash e ≡ false
     → s1 ≡ s → s2 ≡ s1 → r1 ≡ r → r2 ≡ r1 → m2 ≡ m1 → f2 ≡ f1
     → KeepsRows s1 r1 (is_marked m1) (marked m1) (stands f1) (fitting s r (surviving history) ++ option_to_list (fitting_piece s r e))
     → KeepsRows s2 r2 (is_marked m2) (marked m2) (stands f2) (fitting s2 r2 (surviving (history ++ e ∷ [])))
@@ -74,7 +74,7 @@ holds_step {F} stands s s1 s2 r r1 r2 m1 m2 f1 f2 history e none s_same s_kept r
     (subst (λ (q : ℕ). KeepsRows s2 q (is_marked m1) (marked m1) (stands f1) (fitting s2 q (surviving (history ++ e ∷ [])))) (sym r_kept)
     (subst (λ (z : Sizes). KeepsRows z r1 (is_marked m1) (marked m1) (stands f1) (fitting z r1 (surviving (history ++ e ∷ [])))) (sym s_kept) sized)))
 
-pub waits_step : (s s1 s2 : Sizes) (r r1 r2 : ℕ) (h1 h2 : Held) (history : List Event) (e : Event) → is_crash e ≡ false → s1 ≡ s → s2 ≡ s1 → r1 ≡ r → r2 ≡ r1 → h2 ≡ h1
+pub waits_step : (s s1 s2 : Sizes) (r r1 r2 : ℕ) (h1 h2 : Held) (history : List LaneEvent) (e : LaneEvent) → is_crash e ≡ false → s1 ≡ s → s2 ≡ s1 → r1 ≡ r → r2 ≡ r1 → h2 ≡ h1
     → Pends s1 r1 (life_of h1) (share_at h1) (fitting s r (surviving history) ++ option_to_list (fitting_piece s r e)) → Pends s2 r2 (life_of h2) (share_at h2) (fitting s2 r2 (surviving (history ++ e ∷ [])))
 waits_step s s1 s2 r r1 r2 h1 h2 history e none s_same s_kept r_same r_kept h_kept waits =
     let pieces : fitting s r (surviving history) ++ option_to_list (fitting_piece s r e) ≡ fitting s2 r2 (surviving (history ++ e ∷ []))
@@ -83,7 +83,7 @@ waits_step s s1 s2 r r1 r2 h1 h2 history e none s_same s_kept r_same r_kept h_ke
     waits_at s1 s2 r1 r2 h1 h2 (fitting s2 r2 (surviving (history ++ e ∷ []))) s_kept r_kept h_kept (subst (Pends s1 r1 (life_of h1) (share_at h1)) pieces waits)
 
 -- counts at equal numbers
-pub counts_at : (s s' : Sizes) (r r' : ℕ) (c : Counts) (events : List Event) → s' ≡ s → r' ≡ r → c ≡ counts s r events → c ≡ counts s' r' events
+pub counts_at : (s s' : Sizes) (r r' : ℕ) (c : Counts) (events : List LaneEvent) → s' ≡ s → r' ≡ r → c ≡ counts s r events → c ≡ counts s' r' events
 counts_at s s' r r' c events s_same r_same h = h ∙ sym (ap (λ z. counts z r' events) s_same ∙ ap (λ q. counts s q events) r_same)
 
 crash_frame_outcome : (s : Sizes) (rank : ℕ) (pieces : List Piece) (kind : LaneKind) (frame : Frame) → is_crash (record { kind = kind; frame = frame }) ≡ true → (outcome_after s rank pieces kind frame ≡ Crash) × (frame_piece s rank kind frame ≡ None)
@@ -98,14 +98,14 @@ crash_frame_outcome s rank pieces Control (welcome l) h = absurd cc
 crash_frame_outcome s rank pieces Control (refuse r v) h = absurd cc
 
 -- a crash brings back the counts and pieces of what came before the last save
-pub counts_back : (s : Sizes) (rank : ℕ) (history : List Event) (e : Event) → is_crash e ≡ true → counts s rank (surviving (before_last_save history)) ≡ counts s rank (surviving (history ++ e ∷ []))
+pub counts_back : (s : Sizes) (rank : ℕ) (history : List LaneEvent) (e : LaneEvent) → is_crash e ≡ true → counts s rank (surviving (before_last_save history)) ≡ counts s rank (surviving (history ++ e ∷ []))
 counts_back s rank history e h =
     let out : outcome s rank (surviving (before_last_save history)) e ≡ Crash = sym (outcome_is s rank (surviving (before_last_save history)) e.kind e.frame) ∙ (crash_frame_outcome s rank (fitting s rank (surviving (before_last_save history))) e.kind e.frame h).0 in
     sym (ap (counts s rank) (surviving_crash history e h)
     ∙ (counts_more s rank (surviving (before_last_save history)) e
     ∙ ap (counted (counts s rank (surviving (before_last_save history)))) out))
 
-pub pieces_back : (s : Sizes) (rank : ℕ) (history : List Event) (e : Event) → is_crash e ≡ true → fitting s rank (surviving (before_last_save history)) ≡ fitting s rank (surviving (history ++ e ∷ []))
+pub pieces_back : (s : Sizes) (rank : ℕ) (history : List LaneEvent) (e : LaneEvent) → is_crash e ≡ true → fitting s rank (surviving (before_last_save history)) ≡ fitting s rank (surviving (history ++ e ∷ []))
 pieces_back s rank history e h =
     sym (ap (fitting s rank) (surviving_crash history e h)
     ∙ (fitting_more s rank (surviving (before_last_save history)) e

@@ -11,7 +11,7 @@ use Rattle.mls_model.specs.Frames.{Piece}
 use Rattle.mls_model.specs.Places.{any_place}
 use Rattle.mls_model.specs.Completion.{Key, key_of, is_completed, completes, makes_whole}
 use Rattle.mls_model.specs.Outcomes.{piece_outcome}
-use Rattle.mls_laws.specs.Fitting.{Fits}
+use Rattle.mls_model.specs.Fitting.{Fits}
 use Rattle.mls_laws.proofs.Completing.{same_key, is_completed_more}
 use Rattle.mls_assembly.specs.declared.assembled.Assembled.{Assembled}
 use Rattle.mls_assembly.specs.Shares.{Share, block_sample}

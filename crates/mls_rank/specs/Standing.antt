@@ -6,7 +6,7 @@ use Rattle.mls_model.specs.declared.outcomes.Outcome.TheVariants.{Foreign}
 use Rattle.mls_model.specs.Blocks.{block, width}
 use Rattle.mls_model.specs.Studies.{Sizes}
 use Rattle.mls_model.specs.Frames.{Frame, Piece}
-use Rattle.mls_model.specs.Histories.{Event}
+use Rattle.mls_model.specs.Histories.{LaneEvent}
 use Rattle.mls_model.specs.Survival.{surviving}
 use Rattle.mls_model.specs.Fitting.{fitting, frame_reason, frame_piece}
 use Rattle.mls_model.specs.Completion.{is_completed}
@@ -38,7 +38,7 @@ pub record Keeps {F : Type 0} {T : Ghosts F} (core : RankCore F T) (pieces : Lis
   pub waits : Waits core pieces
 
 -- The core is what a history leaves: its counts are those of the surviving events, and its marks, rows and pending pieces those of the fitting pieces among them.
-pub record StandsFor {F : Type 0} {T : Ghosts F} (core : RankCore F T) (history : List Event) : Type 0 where
+pub record StandsFor {F : Type 0} {T : Ghosts F} (core : RankCore F T) (history : List LaneEvent) : Type 0 where
   pub counts : counts_of core ≡ counts (sizes_of core) (rank_of core) (surviving history)
   pub holds : Holds core (fitting (sizes_of core) (rank_of core) (surviving history))
   pub waits : Waits core (fitting (sizes_of core) (rank_of core) (surviving history))

@@ -1,7 +1,7 @@
 //! The counts of a rank's events.
 
 ghost use Rattle.std.specs.Prelude.{◌≡◌, ◌<◌, ◌-◌, ◌^◌};
-ghost use Rattle.mls_laws.specs.OneMore.{counted, total};
+ghost use Rattle.mls_model.specs.Outcomes.{counted, total_count};
 ghost use Rattle.mls_rank.specs.Counting.{no_counts, is_idle};
 
 use mls_model::outcomes::{Counts, Outcome, Reason};
@@ -37,7 +37,7 @@ pub(crate) fn is_not_counted(outcome: Outcome) -> bool
 
 /// The counts with one more outcome. Quiet events, saves and crashes are not counted.
 pub(crate) fn one_more(counts: Counts, outcome: Outcome) -> Counts
-    requires { total counts < 2 ^ 64 - 1 }
+    requires { total_count counts < 2 ^ 64 - 1 }
     ensures { result ≡ counted counts outcome }
 {
     let mut counts = counts;

@@ -7,13 +7,13 @@ ghost use Rattle.mls_model.specs.Studies.{AreSizes, planes};
 ghost use Rattle.mls_model.specs.Blocks.{block, width};
 ghost use Rattle.mls_model.specs.Frames.{Piece};
 ghost use Rattle.mls_model.specs.Completion.{key_of};
-ghost use Rattle.mls_model.specs.Histories.{Event};
+ghost use Rattle.mls_model.specs.Histories.{LaneEvent};
 ghost use Rattle.mls_model.specs.Survival.{is_save, is_crash, surviving};
 ghost use Rattle.mls_model.specs.Fitting.{piece_reason, frame_piece};
 ghost use Rattle.mls_model.specs.Outcomes.{outcome, piece_outcome};
-ghost use Rattle.mls_laws.specs.Fitting.{Fits};
-ghost use Rattle.mls_laws.specs.LastSave.{before_last_save};
-ghost use Rattle.mls_laws.specs.OneMore.{counted, total};
+ghost use Rattle.mls_model.specs.Fitting.{Fits};
+ghost use Rattle.mls_model.specs.Survival.{before_last_save};
+ghost use Rattle.mls_model.specs.Outcomes.{counted, total_count};
 ghost use Rattle.mls_frame.specs.Views.{frame_of};
 ghost use Rattle.mls_ledger.specs.MarkSets.{marked};
 ghost use Rattle.mls_assembly.specs.Held.{open_of};
@@ -264,7 +264,7 @@ impl<F: RowFold> RankCore<F> {
 
     /// Counts an outcome.
     fn count(&mut self, outcome: Outcome)
-        requires { total (counts_of self.old) < 2 ^ 64 - 1 }
+        requires { total_count (counts_of self.old) < 2 ^ 64 - 1 }
         ensures counts { counts_of self.new ≡ counted (counts_of self.old) outcome }
         ensures shape { self.new.shape ≡ self.old.shape }
         ensures rank { self.new.rank ≡ self.old.rank }
@@ -283,17 +283,17 @@ impl<F: RowFold> RankCore<F> {
     ///
     /// A crash on a control lane changes nothing here: who keeps the saved states goes back to one.
     pub fn step(&mut self, kind: LaneKind, view: &FrameView<'_>) -> Result<Outcome, NoMemory>
-        requires room { total (counts_of self.old) < 2 ^ 64 - 1 }
+        requires room { total_count (counts_of self.old) < 2 ^ 64 - 1 }
 
         // What the core stands for.
-        ensures outcome { (history : List Event) → StandsFor self.old history → IfOk result (λ o. o ≡ outcome (sizes_of self.old) (rank_of self.old) (surviving history) (record { kind = kind; frame = frame_of view.now })) }
-        ensures stands { (history : List Event) → StandsFor self.old history → is_crash (record { kind = kind; frame = frame_of view.now }) ≡ false → OnOk result (StandsFor self.new (history ++ record { kind = kind; frame = frame_of view.now } ∷ [])) }
+        ensures outcome { (history : List LaneEvent) → StandsFor self.old history → IfOk result (λ o. o ≡ outcome (sizes_of self.old) (rank_of self.old) (surviving history) (record { kind = kind; frame = frame_of view.now })) }
+        ensures stands { (history : List LaneEvent) → StandsFor self.old history → is_crash (record { kind = kind; frame = frame_of view.now }) ≡ false → OnOk result (StandsFor self.new (history ++ record { kind = kind; frame = frame_of view.now } ∷ [])) }
 
         // What holds of every core.
         ensures sizes { sizes_of self.new ≡ sizes_of self.old }
         ensures rank { rank_of self.new ≡ rank_of self.old }
         ensures counted { IfOk result (λ o. counts_of self.new ≡ counted (counts_of self.old) o) }
-        ensures sum { total (counts_of self.new) ≤ total (counts_of self.old) + 1 }
+        ensures sum { total_count (counts_of self.new) ≤ total_count (counts_of self.old) + 1 }
         ensures saved { IfOk result (λ o. is_saved o ≡ is_save (record { kind = kind; frame = frame_of view.now })) }
         ensures crashed { IfOk result (λ o. is_crashed o ≡ is_crash (record { kind = kind; frame = frame_of view.now })) }
         ensures kept { IfOk result (λ o. o ≢ Outcome.Accepted → (fold_of self.new ≡ fold_of self.old) × ((group plane : ℕ) → has_mark self.new group plane ≡ has_mark self.old group plane)) }
@@ -309,7 +309,7 @@ impl<F: RowFold> RankCore<F> {
 
     /// After a crash the core of the last save stands for the whole history, and where there was no save the core before any event does.
     pub fn after_crash(&self)
-        ensures { (history : List Event) (e : Event) → is_crash e ≡ true → StandsFor self.now (before_last_save history) → StandsFor self.now (history ++ e ∷ []) }
+        ensures { (history : List LaneEvent) (e : LaneEvent) → is_crash e ≡ true → StandsFor self.now (before_last_save history) → StandsFor self.now (history ++ e ∷ []) }
     {
         self.shape.valid();
     }

@@ -1,7 +1,7 @@
 //! A rank of one cell or two, one step, two groups and one parameter, under sample kind u16.
 
 ghost use Rattle.std.specs.Prelude.{◌≡◌, ◌<◌, ◌≤◌, ◌+◌, ◌-◌, ◌^◌, length};
-ghost use Rattle.mls_laws.specs.OneMore.{total};
+ghost use Rattle.mls_model.specs.Outcomes.{total_count};
 ghost use Rattle.mls_rank.specs.Cores.{sizes_of, rank_of, counts_of};
 
 use crate::{LaneKind, Outcome, RankCore, Reason};
@@ -48,10 +48,10 @@ const SAVE: [u8; 5] = [0, 0, 0, 1, 4];
 
 /// What becomes of the frame that the bytes spell, or None where they spell none or memory is short.
 fn step(core: &mut RankCore<Field>, kind: LaneKind, bytes: &[u8]) -> Option<Outcome>
-    requires { total (counts_of core.old) < 1000 }
+    requires { total_count (counts_of core.old) < 1000 }
     ensures sizes { sizes_of core.new ≡ sizes_of core.old }
     ensures rank { rank_of core.new ≡ rank_of core.old }
-    ensures sum { total (counts_of core.new) ≤ total (counts_of core.old) + 1 }
+    ensures sum { total_count (counts_of core.new) ≤ total_count (counts_of core.old) + 1 }
 {
     match view(bytes) {
         Seen::Whole { frame, .. } => match core.step(kind, &frame) {
@@ -142,10 +142,10 @@ fn part(life: u8, client: u8, samples: [u8; 3]) -> [u8; 35] {
 
 /// Whether these pieces of client lanes, one after the other, have these outcomes.
 fn all_become(core: &mut RankCore<Field>, steps: &[([u8; 35], Outcome)]) -> bool
-    requires { total (counts_of core.old) + length steps.now < 1000 }
+    requires { total_count (counts_of core.old) + length steps.now < 1000 }
     ensures sizes { sizes_of core.new ≡ sizes_of core.old }
     ensures rank { rank_of core.new ≡ rank_of core.old }
-    ensures sum { total (counts_of core.new) ≤ total (counts_of core.old) + length steps.now }
+    ensures sum { total_count (counts_of core.new) ≤ total_count (counts_of core.old) + length steps.now }
 {
     for (bytes, outcome) in steps {
         if step(core, LaneKind::Client, bytes) != Some(*outcome) {

@@ -8,11 +8,11 @@ use Rattle.mls_model.specs.declared.lanes.LaneKind.TheVariants.{Client, Control}
 use Rattle.mls_model.specs.Numbers.{element}
 use Rattle.mls_model.specs.Frames.{Frame}
 use Rattle.mls_model.specs.Lanes.{Lane}
-use Rattle.mls_model.specs.Histories.{Event, event_of}
+use Rattle.mls_model.specs.Histories.{LaneEvent, event_of}
 use Rattle.mls_model.specs.Survival.{is_save, is_crash, is_save_frame, is_crash_frame}
 use Rattle.mls_replay.specs.Calm.{is_calm, is_calm_lane, is_calm_frame}
 
-pub record IsCalmEvent (e : Event) : Type 0 where
+pub record IsCalmEvent (e : LaneEvent) : Type 0 where
   pub no_save : is_save e ≡ false
   pub no_crash : is_crash e ≡ false
 
@@ -35,11 +35,11 @@ calm_of Control frames i frame calm there =
     let b = both (not (is_save_frame frame)) (not (is_crash_frame frame)) (calm_frame frames i frame calm there) in
     record { no_save = negated (is_save_frame frame) b.0; no_crash = negated (is_crash_frame frame) b.1 }
 
-pub mapped : (kind : LaneKind) (o : Option Frame) (e : Event) → option_map (λ frame. let r : Event = record { kind = kind; frame = frame } in r) o ≡ Some e → (frame : Frame) × (o ≡ Some frame) × (let r : Event = record { kind = kind; frame = frame } in r ≡ e)
+pub mapped : (kind : LaneKind) (o : Option Frame) (e : LaneEvent) → option_map (λ frame. let r : LaneEvent = record { kind = kind; frame = frame } in r) o ≡ Some e → (frame : Frame) × (o ≡ Some frame) × (let r : LaneEvent = record { kind = kind; frame = frame } in r ≡ e)
 mapped kind None e there = cc
 mapped kind (Some frame) e there = (frame, refl, cc)
 
-pub calm_event : (lanes : List Lane) (k i : ℕ) (e : Event) → is_calm lanes ≡ true → event_of lanes k i ≡ Some e → IsCalmEvent e
+pub calm_event : (lanes : List Lane) (k i : ℕ) (e : LaneEvent) → is_calm lanes ≡ true → event_of lanes k i ≡ Some e → IsCalmEvent e
 calm_event [] k i e calm there = cc
 calm_event (lane ∷ lanes) zero i e calm there =
     let m = mapped lane.kind (element lane.frames i) e there in

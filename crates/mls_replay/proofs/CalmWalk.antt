@@ -5,7 +5,7 @@ use Rattle.std.specs.List.{list_all}
 use Rattle.std.specs.Option.{option_map, option_and_then}
 use Rattle.mls_model.specs.Numbers.{element}
 use Rattle.mls_model.specs.Lanes.{Lane}
-use Rattle.mls_model.specs.Histories.{Event, event_of}
+use Rattle.mls_model.specs.Histories.{LaneEvent, event_of}
 use Rattle.mls_replay.proofs.CalmEvents.{mapped}
 
 drop_there : {A : Type 0} (xs : List A) (n : ℕ) (x : A) → element xs n ≡ Some x → drop n xs ≡ x ∷ drop (suc n) xs
@@ -30,7 +30,7 @@ all_end p (x ∷ xs) zero few = absurd (omega arith)
 all_end p (x ∷ xs) (suc n) few = all_end p xs n (omega arith)
 
 -- the frame of an event of a lane
-pub frame_of_event : (lanes : List Lane) (k i : ℕ) (l : Lane) (e : Event) → element lanes k ≡ Some l → event_of lanes k i ≡ Some e → element l.frames i ≡ Some e.frame
+pub frame_of_event : (lanes : List Lane) (k i : ℕ) (l : Lane) (e : LaneEvent) → element lanes k ≡ Some l → event_of lanes k i ≡ Some e → element l.frames i ≡ Some e.frame
 frame_of_event lanes k i l e lane there =
-    let m = mapped l.kind (element l.frames i) e (sym (ap (option_and_then (λ (lane : Lane). option_map (λ frame. let r : Event = record { kind = lane.kind; frame = frame } in r) (element lane.frames i))) lane) ∙ there) in
-    subst (λ f. element l.frames i ≡ Some f) (ap (λ (r : Event). r.frame) m.2) m.1
+    let m = mapped l.kind (element l.frames i) e (sym (ap (option_and_then (λ (lane : Lane). option_map (λ frame. let r : LaneEvent = record { kind = lane.kind; frame = frame } in r) (element lane.frames i))) lane) ∙ there) in
+    subst (λ f. element l.frames i ≡ Some f) (ap (λ (r : LaneEvent). r.frame) m.2) m.1

@@ -11,22 +11,21 @@ use Rattle.mls_model.specs.declared.lanes.LaneLine.{LaneLine}
 use Rattle.mls_model.specs.Numbers.{element}
 use Rattle.mls_model.specs.Studies.{Sizes, Study}
 use Rattle.mls_model.specs.Lanes.{Lane, line_of}
-use Rattle.mls_model.specs.Histories.{Event, history}
-use Rattle.mls_model.specs.ResultText.{lines_of, counts_of, rows_of, result_text}
+use Rattle.mls_model.specs.Histories.{LaneEvent, history}
+use Rattle.mls_model.specs.ResultText.{histories_of, history_text, lines_of, result_text}
 use Rattle.mls_rank.specs.declared.rank_core.RankCore.{RankCore}
 use Rattle.mls_rank.specs.Cores.{sizes_of, rank_of}
 use Rattle.mls_rank.specs.Standing.{StandsFor}
-use Rattle.mls_result.specs.Histories.{AreCores, AllStand, history_text}
-use Rattle.mls_replay.specs.Folding.{histories_of}
+use Rattle.mls_result.specs.Histories.{AreCores, AllStand}
 
 -- The first n cores: one for each of the first n ranks, in order, each standing for its rank's history.
-pub record AreFirst {F : Type 0} {T : Ghosts F} (s : Sizes) (histories : ℕ → List Event) (n : ℕ) (cores : List (RankCore F T)) : Type 0 where
+pub record AreFirst {F : Type 0} {T : Ghosts F} (s : Sizes) (histories : ℕ → List LaneEvent) (n : ℕ) (cores : List (RankCore F T)) : Type 0 where
   pub count : length cores ≡ n
   pub sizes : (rank : ℕ) (d : RankCore F T) → rank < n → sizes_of (get_or cores rank d) ≡ s
   pub ranks : (rank : ℕ) (d : RankCore F T) → rank < n → rank_of (get_or cores rank d) ≡ rank
   pub stand : (rank : ℕ) (d : RankCore F T) → rank < n → StandsFor (get_or cores rank d) (histories rank)
 
-pub none_yet : {F : Type 0} {T : Ghosts F} (s : Sizes) (histories : ℕ → List Event) (cores : List (RankCore F T)) → cores ≡ [] → AreFirst s histories 0 cores
+pub none_yet : {F : Type 0} {T : Ghosts F} (s : Sizes) (histories : ℕ → List LaneEvent) (cores : List (RankCore F T)) → cores ≡ [] → AreFirst s histories 0 cores
 none_yet {F} {T} s histories cores empty = subst (AreFirst s histories 0) (sym empty) (record { count = refl; sizes = λ rank d here. absurd (omega (arith, here)); ranks = λ rank d here. absurd (omega (arith, here)); stand = λ rank d here. absurd (omega (arith, here)) })
 
 -- what holds of each of the first n and of the next holds of each of them
@@ -40,7 +39,7 @@ each_more {C} P cores core n count first next rank d here = elim (cases_lt rank 
       subst (P rank) (sym is_core) (subst (λ k. P k core) own next)
 ]
 
-pub one_more : {F : Type 0} {T : Ghosts F} (s : Sizes) (histories : ℕ → List Event) (n : ℕ) (cores cores' : List (RankCore F T)) (core : RankCore F T) → AreFirst s histories n cores → cores' ≡ cores ++ core ∷ [] → sizes_of core ≡ s → rank_of core ≡ n → StandsFor core (histories n) → AreFirst s histories (n + 1) cores'
+pub one_more : {F : Type 0} {T : Ghosts F} (s : Sizes) (histories : ℕ → List LaneEvent) (n : ℕ) (cores cores' : List (RankCore F T)) (core : RankCore F T) → AreFirst s histories n cores → cores' ≡ cores ++ core ∷ [] → sizes_of core ≡ s → rank_of core ≡ n → StandsFor core (histories n) → AreFirst s histories (n + 1) cores'
 one_more {F} {T} s histories n cores cores' core first pushed is_sizes is_rank stands = subst (AreFirst s histories (n + 1)) (sym pushed) (record {
   count = omega (arith, first.count, length-append cores (core ∷ []));
   sizes = each_more (λ rank c. sizes_of c ≡ s) cores core n first.count first.sizes is_sizes;
@@ -49,14 +48,14 @@ one_more {F} {T} s histories n cores cores' core first pushed is_sizes is_rank s
 })
 
 -- the first of as many as there are ranks are all
-pub all_cores : {F : Type 0} {T : Ghosts F} (s : Sizes) (histories : ℕ → List Event) (n : ℕ) (cores : List (RankCore F T)) → AreFirst s histories n cores → n ≡ s.ranks → AreCores s cores
+pub all_cores : {F : Type 0} {T : Ghosts F} (s : Sizes) (histories : ℕ → List LaneEvent) (n : ℕ) (cores : List (RankCore F T)) → AreFirst s histories n cores → n ≡ s.ranks → AreCores s cores
 all_cores {F} {T} s histories n cores first all = record {
   count = first.count ∙ all;
   sizes = λ rank d here. first.sizes rank d (omega (arith, here, first.count));
   ranks = λ rank d here. first.ranks rank d (omega (arith, here, first.count));
 }
 
-pub all_stand : {F : Type 0} {T : Ghosts F} (s : Sizes) (histories : ℕ → List Event) (n : ℕ) (cores : List (RankCore F T)) → AreFirst s histories n cores → AllStand cores histories
+pub all_stand : {F : Type 0} {T : Ghosts F} (s : Sizes) (histories : ℕ → List LaneEvent) (n : ℕ) (cores : List (RankCore F T)) → AreFirst s histories n cores → AllStand cores histories
 all_stand {F} {T} s histories n cores first = record { each = λ rank d here. first.stand rank d (omega (arith, here, first.count)) }
 
 -- the history of a rank whose list is known
@@ -90,7 +89,7 @@ lines_all lanes i kept is_kept past = is_kept ∙ take_all i (map line_at (enume
 
 -- the text of the histories under a schedule is the result text
 pub text_is : (study : Study) (lanes : List Lane) (orders : List (List ℕ)) → history_text study (histories_of lanes orders) (lines_of lanes) ≡ result_text study lanes orders
-unfolding history_text result_text counts_of rows_of
+unfolding result_text
 text_is study lanes orders = refl
 
 -- a fact of the lane, where there is one

@@ -11,7 +11,7 @@ use Rattle.mls_model.specs.declared.lanes.LaneKind.{LaneKind}
 use Rattle.mls_model.specs.Frames.{Frame}
 use Rattle.mls_model.specs.Lanes.{Lane}
 use Rattle.mls_model.specs.Schedules.{event_count, is_legal_order}
-use Rattle.mls_model.specs.Histories.{Event, event_of, history}
+use Rattle.mls_model.specs.Histories.{LaneEvent, event_of, history}
 use Rattle.mls_replay.specs.Taken.{AreTaken}
 use Rattle.mls_replay.proofs.Orders.{times-append, history_more, take_one_more, is_next, lane_there}
 
@@ -67,17 +67,17 @@ taken_more taken lanes order i here are = record {
 }
 
 -- the history with the event at a place
-pub history_taken : (lanes : List Lane) (order : List ℕ) (i number : ℕ) (e : Event) → i < length order → number ≡ times (get_or order i 0) (take i order) → event_of lanes (get_or order i 0) number ≡ Some e → history lanes (take i order) ++ e ∷ [] ≡ history lanes (take (i + 1) order)
+pub history_taken : (lanes : List Lane) (order : List ℕ) (i number : ℕ) (e : LaneEvent) → i < length order → number ≡ times (get_or order i 0) (take i order) → event_of lanes (get_or order i 0) number ≡ Some e → history lanes (take i order) ++ e ∷ [] ≡ history lanes (take (i + 1) order)
 history_taken lanes order i number e here count there =
     let k = get_or order i 0 in
     let found : event_of lanes k (times k (take i order)) ≡ Some e = ap (λ n. event_of lanes k n) (sym count) ∙ there in
     sym (ap (history lanes) (take_one_more order i here) ∙ history_more lanes (take i order) k ∙ ap (λ o. history lanes (take i order) ++ option_to_list o) found)
 
 -- an event is its kind and its frame
-pub same_event : (kind k : LaneKind) (frame f : Frame) → kind ≡ k → frame ≡ f → ◌≡◌ {A = Event} (record { kind = kind; frame = frame }) (record { kind = k; frame = f })
+pub same_event : (kind k : LaneKind) (frame f : Frame) → kind ≡ k → frame ≡ f → ◌≡◌ {A = LaneEvent} (record { kind = kind; frame = frame }) (record { kind = k; frame = f })
 same_event kind k frame f a b =
-    let first : ◌≡◌ {A = Event} (record { kind = kind; frame = frame }) (record { kind = k; frame = frame }) = ap (λ (x : LaneKind). let r : Event = record { kind = x; frame = frame } in r) a in
-    let second : ◌≡◌ {A = Event} (record { kind = k; frame = frame }) (record { kind = k; frame = f }) = ap (λ (x : Frame). let r : Event = record { kind = k; frame = x } in r) b in
+    let first : ◌≡◌ {A = LaneEvent} (record { kind = kind; frame = frame }) (record { kind = k; frame = frame }) = ap (λ (x : LaneKind). let r : LaneEvent = record { kind = x; frame = frame } in r) a in
+    let second : ◌≡◌ {A = LaneEvent} (record { kind = k; frame = frame }) (record { kind = k; frame = f }) = ap (λ (x : Frame). let r : LaneEvent = record { kind = k; frame = x } in r) b in
     first ∙ second
 
 -- what a slice of a whole vector wrote is the vector's list

@@ -3,16 +3,9 @@ use Rattle.std.specs.Prelude.{◌≡◌, ℕ, List, [], Option, Result, Ok, Err,
 use Rattle.mls_base.specs.Told.{appended, WroteFront, Rose}
 use Rattle.mls_model.specs.Numbers.{element}
 use Rattle.mls_model.specs.Lanes.{Lane}
-use Rattle.mls_model.specs.Histories.{Event, history}
+use Rattle.mls_model.specs.Histories.{LaneEvent, history}
 use Rattle.mls_result.specs.declared.fault.FoldFault.{FoldFault}
 use Rattle.mls_result.specs.declared.fault.FoldFault.TheVariants.{WriteFault, Memory}
-
--- a rank's list, and its history
-abbrev pub order_of : List (List ℕ) → ℕ → List ℕ
-order_of orders rank = unwrap_or (element orders rank) []
-
-abbrev pub histories_of : List Lane → List (List ℕ) → ℕ → List Event
-histories_of lanes orders rank = history lanes (order_of orders rank)
 
 -- After Ok the text was appended; after a failed write a front of it went out and the sink's count rose; after want of memory nothing was written.
 abbrev pub Folds : {A : Type 0} → Result A FoldFault → List ℕ → Option (List ℕ) → Option (List ℕ) → ℕ → ℕ → Type 0

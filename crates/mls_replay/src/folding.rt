@@ -2,10 +2,10 @@
 
 ghost use Rattle.std.specs.Prelude.{◌≡◌, ℕ, ◌<◌, ◌≤◌, ◌+◌, List, [], length, get_or, vec_len, true, IfOk, IfErr};
 ghost use Rattle.mls_model.specs.Schedules.{is_legal};
-ghost use Rattle.mls_model.specs.ResultText.{result_text, lines_of};
+ghost use Rattle.mls_model.specs.ResultText.{histories_of, order_at, result_text, lines_of};
 ghost use Rattle.mls_result.specs.Histories.{AreCores, AllStand};
 ghost use Rattle.mls_replay.specs.Calm.{is_calm};
-ghost use Rattle.mls_replay.specs.Folding.{Folds, order_of, histories_of};
+ghost use Rattle.mls_replay.specs.Folding.{Folds};
 
 use crate::ranks::run_rank;
 use mls_base::faults::NoMemory;

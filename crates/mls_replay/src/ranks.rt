@@ -3,7 +3,7 @@
 ghost use Rattle.std.specs.Prelude.{◌≡◌, ℕ, ◌+◌, ◌<◌, ◌≤◌, List, length, true, take, IfOk, OnOk};
 ghost use Rattle.mls_model.specs.Schedules.{is_legal_order};
 ghost use Rattle.mls_model.specs.Histories.{history};
-ghost use Rattle.mls_laws.specs.OneMore.{total};
+ghost use Rattle.mls_model.specs.Outcomes.{total_count};
 ghost use Rattle.mls_rank.specs.Cores.{sizes_of, rank_of, counts_of};
 ghost use Rattle.mls_rank.specs.Standing.{StandsFor};
 ghost use Rattle.mls_replay.specs.Calm.{is_calm};
@@ -28,11 +28,11 @@ fn take_event<F: RowFold>(
     requires legal { is_legal_order tape.now.lanes (rank_of core.old) order.now ≡ true }
     requires calm { is_calm tape.now.lanes ≡ true }
     requires counted { AreTaken taken.old (length tape.now.lanes) (take place order.now) }
-    requires room { total (counts_of core.old) ≤ place }
+    requires room { total_count (counts_of core.old) ≤ place }
     ensures sizes { sizes_of core.new ≡ sizes_of core.old }
     ensures rank { rank_of core.new ≡ rank_of core.old }
     ensures counted { OnOk result (AreTaken taken.new (length tape.now.lanes) (take (place + 1) order.now)) }
-    ensures room { total (counts_of core.new) ≤ place + 1 }
+    ensures room { total_count (counts_of core.new) ≤ place + 1 }
     ensures stands { StandsFor core.old (history tape.now.lanes (take place order.now)) → OnOk result (StandsFor core.new (history tape.now.lanes (take (place + 1) order.now))) }
 {
     let lane = order[place];

@@ -5,7 +5,7 @@ use Rattle.std.proofs.lemmas.Bool.{eq-eqb, ne_eqb, cond-true, cond-false}
 use Rattle.mls_power.specs.declared.power.Powers.{Powers}
 use Rattle.mls_field.specs.Kept.{HasValuePowers}
 use Rattle.mls_model.specs.CellSums.{CellSums}
-use Rattle.mls_model.specs.SumsText.{height, variance_of, third_of, sums_powers}
+use Rattle.mls_model.specs.SumsText.{height, variance_top_of, third_top_of, sums_powers}
 use Rattle.mls_model.specs.Statistics.{outputs, total, squares, cubes, fourths, variance_top, third_top}
 use Rattle.mls_model.specs.ResultText.{power_line, variance_line, third_line}
 use Rattle.mls_result.specs.Words.{power_words, variance_words, third_words}
@@ -34,7 +34,7 @@ pub lines_of_none : (signed : Bool) (c : CellSums) → c.rows ≡ 0 → sums_pow
 unfolding sums_powers
 lines_of_none signed c none = cond-true _ _ _ (eq-eqb c.rows 0 none)
 
-pub lines_of_some : (signed : Bool) (c : CellSums) (count : ℕ) (p : Powers) (variance third : ℤ) → c.rows ≡ count → 0 < count → HasValuePowers (height signed) c p → variance ≡ variance_of c → third ≡ third_of c → sums_powers signed c ≡ power_words p.p1 (pos p.p2) p.p3 p.p4 ++ (variance_words variance (2 * count) ++ third_words third (2 * count))
+pub lines_of_some : (signed : Bool) (c : CellSums) (count : ℕ) (p : Powers) (variance third : ℤ) → c.rows ≡ count → 0 < count → HasValuePowers (height signed) c p → variance ≡ variance_top_of c → third ≡ third_top_of c → sums_powers signed c ≡ power_words p.p1 (pos p.p2) p.p3 p.p4 ++ (variance_words variance (2 * count) ++ third_words third (2 * count))
 unfolding sums_powers power_words variance_words third_words
 lines_of_some signed c count p variance third counted some powers is_variance is_third =
     cond-false _ _ _ (ne_eqb c.rows 0 (λ none. absurd (omega (arith, none, counted, some))))

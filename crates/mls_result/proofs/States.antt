@@ -7,12 +7,12 @@ use Rattle.mls_model.specs.declared.lanes.LaneLine.{LaneLine}
 use Rattle.mls_model.specs.Numbers.{below, element}
 use Rattle.mls_model.specs.Studies.{Sizes, Study, planes, plane_of}
 use Rattle.mls_model.specs.Blocks.{block, width, rank_of}
-use Rattle.mls_model.specs.Histories.{Event}
+use Rattle.mls_model.specs.Histories.{LaneEvent}
 use Rattle.mls_model.specs.Standing.{rank_table}
 use Rattle.mls_model.specs.CellSums.{sums_of}
 use Rattle.mls_model.specs.SumsText.{sums_text}
-use Rattle.mls_model.specs.ResultText.{title, study_line, rank_lines, lane_lines, cell_text, rows_said, field_text, step_text, cells_text, whole_text}
-use Rattle.mls_base.proofs.Sharing.{holder}
+use Rattle.mls_model.specs.ResultText.{history_counts, history_rows, history_text, pieces_of, title, study_line, rank_lines, lane_lines, cell_text, rows_said, field_text, step_text, cells_text, whole_text}
+use Rattle.mls_base.proofs.Spans.{holder}
 use Rattle.mls_field.specs.declared.fold.RowFold.{Ghosts}
 use Rattle.mls_field.specs.declared.field.Field.{Field}
 use Rattle.mls_field.specs.Stands.{shape_of, rank_of as field_rank, StandsFor}
@@ -21,13 +21,13 @@ use Rattle.mls_field.proofs.Grid.{cell_fits}
 use Rattle.mls_field.proofs.Kept.{sums_of_rows, rows_whole}
 use Rattle.mls_rank.specs.declared.rank_core.RankCore.{RankCore}
 use Rattle.mls_rank.specs.Cores.{counts_of, fold_of}
-use Rattle.mls_result.specs.Histories.{pieces_of, history_rows, history_counts, history_text, no_sums, core_sums, kept_sums, kept_said, states_text, AreCores}
+use Rattle.mls_result.specs.Histories.{no_sums, core_sums, kept_sums, kept_said, states_text, AreCores}
 use Rattle.mls_result.proofs.CellText.{rows_at}
 use Rattle.mls_result.proofs.RowsText.{cell_said}
 use Rattle.mls_result.proofs.Texts.{rows_are, holder_is_found, holder_within_ranks, holder_bounds}
 
 -- what the cores keep stands for their histories' rows
-pub record FoldsStand {T : Ghosts Field} (s : Sizes) (cores : List (RankCore Field T)) (histories : ℕ → List Event) : Type 0 where
+pub record FoldsStand {T : Ghosts Field} (s : Sizes) (cores : List (RankCore Field T)) (histories : ℕ → List LaneEvent) : Type 0 where
   pub sizes : (rank : ℕ) (d : RankCore Field T) → rank < length cores → shape_of (fold_of (get_or cores rank d)) ≡ s
   pub ranks : (rank : ℕ) (d : RankCore Field T) → rank < length cores → field_rank (fold_of (get_or cores rank d)) ≡ rank
   pub rows : (rank : ℕ) (d : RankCore Field T) → rank < length cores → StandsFor (fold_of (get_or cores rank d)) (rank_table s rank (pieces_of s rank (histories rank)))
@@ -50,7 +50,7 @@ kept_at {T} s cores rank plane x d found here =
 abbrev AllRows : Sizes → List (List ℕ) → Type 0
 AllRows z rows = AllByRecursion (λ row. length row ≡ z.parameters + 2) rows
 
-cell_is : {T : Ghosts Field} (study : Study) (cores : List (RankCore Field T)) (histories : ℕ → List Event) → 1 ≤ study.sizes.ranks → length study.parameters ≡ study.sizes.parameters → AreCores study.sizes cores → FoldsStand study.sizes cores histories → (step field x : ℕ) → step < study.sizes.steps → field < study.sizes.fields → x < study.sizes.cells → kept_said study cores step field x ≡ rows_said study (history_rows study.sizes histories) step field x
+cell_is : {T : Ghosts Field} (study : Study) (cores : List (RankCore Field T)) (histories : ℕ → List LaneEvent) → 1 ≤ study.sizes.ranks → length study.parameters ≡ study.sizes.parameters → AreCores study.sizes cores → FoldsStand study.sizes cores histories → (step field x : ℕ) → step < study.sizes.steps → field < study.sizes.fields → x < study.sizes.cells → kept_said study cores step field x ≡ rows_said study (history_rows study.sizes histories) step field x
 cell_is study cores histories some counted are stand step field x step_in field_in here =
     let s = study.sizes in
     let rank = holder s.cells s.ranks x in
@@ -83,7 +83,7 @@ each_below f g (suc n) same =
     ∙ (λ i. each_below f g n (λ j h. same j (omega (arith, h))) i ++ (same n (omega arith) i ++ []))
     ∙ sym (flat_map-append g (below n) (n ∷ []))
 
-pub states_are : {T : Ghosts Field} (study : Study) (cores : List (RankCore Field T)) (histories : ℕ → List Event) (lines : List LaneLine) → 1 ≤ study.sizes.ranks → length study.parameters ≡ study.sizes.parameters → AreCores study.sizes cores → map counts_of cores ≡ history_counts study.sizes histories → FoldsStand study.sizes cores histories → states_text study cores lines ≡ history_text study histories lines
+pub states_are : {T : Ghosts Field} (study : Study) (cores : List (RankCore Field T)) (histories : ℕ → List LaneEvent) (lines : List LaneLine) → 1 ≤ study.sizes.ranks → length study.parameters ≡ study.sizes.parameters → AreCores study.sizes cores → map counts_of cores ≡ history_counts study.sizes histories → FoldsStand study.sizes cores histories → states_text study cores lines ≡ history_text study histories lines
 unfolding states_text history_text whole_text cells_text step_text field_text
 states_are study cores histories lines some counted are counts stand =
     let s = study.sizes in

@@ -4,18 +4,18 @@ use Rattle.mls_field.specs.declared.fold.RowFold.{Ghosts}
 use Rattle.mls_field.specs.declared.field.Field.{Field}
 use Rattle.mls_model.specs.declared.lanes.LaneLine.{LaneLine}
 use Rattle.mls_model.specs.Studies.{Sizes, Study}
-use Rattle.mls_model.specs.Histories.{Event}
+use Rattle.mls_model.specs.Histories.{LaneEvent}
 use Rattle.mls_model.specs.Survival.{surviving}
 use Rattle.mls_model.specs.Outcomes.{counts}
-use Rattle.mls_model.specs.ResultText.{study_line, rank_lines, lane_lines, cells_text, whole_text}
+use Rattle.mls_model.specs.ResultText.{history_counts, study_line, rank_lines, lane_lines, cells_text, whole_text}
 use Rattle.mls_rank.specs.declared.rank_core.RankCore.{RankCore}
 use Rattle.mls_rank.specs.Cores.{rank_of, counts_of}
 use Rattle.mls_text.proofs.Counted.{map_is}
 use Rattle.mls_result.specs.Words.{title_words, end_words}
-use Rattle.mls_result.specs.Histories.{history_counts, kept_said, states_text, AreCores, AllStand}
+use Rattle.mls_result.specs.Histories.{kept_said, states_text, AreCores, AllStand}
 
 -- the counts of the cores
-pub counts_are : {F : Type 0} {T : Ghosts F} (s : Sizes) (cores : List (RankCore F T)) (histories : ℕ → List Event) → AreCores s cores → AllStand cores histories → map counts_of cores ≡ history_counts s histories
+pub counts_are : {F : Type 0} {T : Ghosts F} (s : Sizes) (cores : List (RankCore F T)) (histories : ℕ → List LaneEvent) → AreCores s cores → AllStand cores histories → map counts_of cores ≡ history_counts s histories
 counts_are s cores histories are stand =
     map_is counts_of (λ rank. counts s rank (surviving (histories rank))) cores s.ranks are.count
     (λ rank d here.

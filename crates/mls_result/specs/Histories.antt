@@ -8,7 +8,7 @@ use Rattle.mls_model.specs.Blocks.{block, rank_of}
 use Rattle.mls_model.specs.CellSums.{CellSums}
 use Rattle.mls_model.specs.SumsText.{sums_said, text_of_sums}
 use Rattle.mls_model.specs.Frames.{Piece}
-use Rattle.mls_model.specs.Histories.{Event}
+use Rattle.mls_model.specs.Histories.{LaneEvent}
 use Rattle.mls_model.specs.Survival.{surviving}
 use Rattle.mls_model.specs.Fitting.{fitting}
 use Rattle.mls_model.specs.Outcomes.{counts}
@@ -21,21 +21,6 @@ use Rattle.mls_rank.specs.declared.rank_core.RankCore.{RankCore}
 use Rattle.mls_rank.specs.Cores.{sizes_of, rank_of as core_rank, counts_of, fold_of}
 use Rattle.mls_rank.specs.Standing.{StandsFor}
 
--- the fitting pieces that survive in a rank's history
-abbrev pub pieces_of : Sizes → ℕ → List Event → List Piece
-pieces_of s rank history = fitting s rank (surviving history)
-
--- the rows of a plane and cell, at the rank whose block holds the cell
-abbrev pub history_rows : Sizes → (ℕ → List Event) → ℕ → ℕ → List (List ℤ)
-history_rows s histories plane x = elim (rank_of s x) [ None ↦ [] | Some rank ↦ rows s rank plane x (pieces_of s rank (histories rank)) ]
-
-abbrev pub history_counts : Sizes → (ℕ → List Event) → List Counts
-history_counts s histories = map (λ rank. counts s rank (surviving (histories rank))) (below s.ranks)
-
--- the result text, where each rank has such a history
-unfoldable pub history_text : Study → (ℕ → List Event) → List LaneLine → List ℕ
-history_text study histories lines = text_of study (history_counts study.sizes histories) lines (history_rows study.sizes histories)
-
 -- One core for each rank of a study, in order.
 pub record AreCores {F : Type 0} {T : Ghosts F} (s : Sizes) (cores : List (RankCore F T)) : Type 0 where
   pub count : length cores ≡ s.ranks
@@ -43,7 +28,7 @@ pub record AreCores {F : Type 0} {T : Ghosts F} (s : Sizes) (cores : List (RankC
   pub ranks : (rank : ℕ) (d : RankCore F T) → rank < length cores → core_rank (get_or cores rank d) ≡ rank
 
 -- Each core stands for its rank's history.
-pub record AllStand {F : Type 0} {T : Ghosts F} (cores : List (RankCore F T)) (histories : ℕ → List Event) : Type 0 where
+pub record AllStand {F : Type 0} {T : Ghosts F} (cores : List (RankCore F T)) (histories : ℕ → List LaneEvent) : Type 0 where
   pub each : (rank : ℕ) (d : RankCore F T) → rank < length cores → StandsFor (get_or cores rank d) (histories rank)
 
 -- What the core of the rank whose block holds a cell keeps of a plane and this cell.

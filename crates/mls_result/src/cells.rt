@@ -4,7 +4,7 @@ ghost use Rattle.std.specs.Prelude.{◌≡◌, ◌<◌, ◌≤◌, ◌-◌, ◌+
 ghost use Rattle.mls_model.specs.Studies.{planes, plane_of, shows};
 ghost use Rattle.mls_model.specs.Blocks.{block, width};
 ghost use Rattle.mls_model.specs.ResultText.{power_line, variance_line, third_line, exceed_words};
-ghost use Rattle.mls_model.specs.SumsText.{variance_of, third_of, sums_powers, sums_extrema, sums_indices, sums_statistics, sums_text};
+ghost use Rattle.mls_model.specs.SumsText.{variance_top_of, third_top_of, sums_powers, sums_extrema, sums_indices, sums_statistics, sums_text};
 ghost use Rattle.mls_rank.specs.Cores.{sizes_of, rank_of as core_rank};
 ghost use Rattle.mls_result.specs.Histories.{core_sums};
 ghost use Rattle.mls_field.specs.Stands.{shape_of, rank_of};
@@ -36,8 +36,8 @@ fn put_no_powers<O: Sink>(out: &mut O) -> Result<(), Failed>
 fn moments_of(field: &Field, step: u32, cell: u32) -> Moments
     requires step_in { step < planes (shape_of field.now) }
     requires cell_in { cell < width (block (shape_of field.now) (rank_of field.now)) }
-    ensures variance { result.variance ≡ variance_of (sums_at field.now step cell) }
-    ensures third { result.third ≡ third_of (sums_at field.now step cell) }
+    ensures variance { result.variance ≡ variance_top_of (sums_at field.now step cell) }
+    ensures third { result.third ≡ third_top_of (sums_at field.now step cell) }
 {
     Moments {
         variance: field.variance_top(step, cell),

@@ -17,7 +17,7 @@ pub enum FileRole {
 
 /// A part of the program that is not built yet.
 #[derive(Clone, Copy, Debug, PartialEq, Eq)]
-pub enum Part {
+pub enum Unbuilt {
     /// A command other than `fold`, `design` and `watch`.
     Command,
     /// A tape with a save or a crash on a control lane.
@@ -53,7 +53,7 @@ pub enum Status {
     Memory,
     /// The command, the study or the tape asks for what is not built yet.
     #[error("not built yet")]
-    NotBuilt { part: Part },
+    NotBuilt { part: Unbuilt },
     /// A file has more bytes than it may have.
     #[error("file too long: {}", RoleText(*.file))]
     TooLong { file: FileRole },

@@ -1,7 +1,7 @@
 //! Whole texts of worked studies.
 
 ghost use Rattle.std.specs.Prelude.{◌≡◌, ◌<◌, ◌≤◌, ◌+◌};
-ghost use Rattle.mls_laws.specs.OneMore.{total};
+ghost use Rattle.mls_model.specs.Outcomes.{total_count};
 ghost use Rattle.mls_rank.specs.Cores.{sizes_of, rank_of, counts_of};
 
 use crate::{write_ranks, write_result};
@@ -63,10 +63,10 @@ fn lane(lane: u32, rank: u32, events: u32) -> LaneLine {
 
 /// Takes the frame that the bytes spell, where they spell one.
 fn step(core: &mut RankCore<Field>, bytes: &[u8])
-    requires { total (counts_of core.old) < 1000 }
+    requires { total_count (counts_of core.old) < 1000 }
     ensures sizes { sizes_of core.new ≡ sizes_of core.old }
     ensures rank { rank_of core.new ≡ rank_of core.old }
-    ensures sum { total (counts_of core.new) ≤ total (counts_of core.old) + 1 }
+    ensures sum { total_count (counts_of core.new) ≤ total_count (counts_of core.old) + 1 }
 {
     if let Seen::Whole { frame, .. } = view(bytes) {
         let _outcome = core.step(LaneKind::Client, &frame);

@@ -1,11 +1,11 @@
 //! The whole text.
 
 ghost use Rattle.std.specs.Prelude.{◌≡◌, ℕ, ◌<◌, ◌≤◌, List};
-ghost use Rattle.mls_model.specs.Histories.{Event};
-ghost use Rattle.mls_model.specs.ResultText.{field_text, step_text, cells_text};
+ghost use Rattle.mls_model.specs.Histories.{LaneEvent};
+ghost use Rattle.mls_model.specs.ResultText.{history_text, field_text, step_text, cells_text};
 ghost use Rattle.mls_model.specs.Blocks.{block, rank_of};
 ghost use Rattle.mls_text.specs.Writing.{Writes};
-ghost use Rattle.mls_result.specs.Histories.{history_text, kept_said, states_text, AreCores, AllStand};
+ghost use Rattle.mls_result.specs.Histories.{kept_said, states_text, AreCores, AllStand};
 ghost use Rattle.mls_result.specs.Words.{end_words};
 
 use crate::cells::put_cell;
@@ -133,7 +133,7 @@ pub fn write_result<O: Sink>(
 ) -> Result<(), Failed>
     requires cores { AreCores study.now.sizes cores.now }
     ensures states { Writes result (states_text study.now cores.now lanes.now) (O.told out.old) (O.told out.new) (O.faults out.old) (O.faults out.new) }
-    ensures histories { (histories : ℕ → List Event) → AllStand cores.now histories → Writes result (history_text study.now histories lanes.now) (O.told out.old) (O.told out.new) (O.faults out.old) (O.faults out.new) }
+    ensures histories { (histories : ℕ → List LaneEvent) → AllStand cores.now histories → Writes result (history_text study.now histories lanes.now) (O.told out.old) (O.told out.new) (O.faults out.old) (O.faults out.new) }
 {
     study.valid();
     put_result(out, study, cores, lanes)

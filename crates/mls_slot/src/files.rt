@@ -94,15 +94,15 @@ impl<R: rt::Files + Drop> Disk for FileDisk<R> {
 
 /// The name of an area's file.
 #[derive(Drop)]
-struct Name {
+struct AreaName {
     bytes: [u8; 32],
     len: usize,
     ghost within: { len ≤ 32 },
 }
 
-impl Name {
-    fn of(rank: u32, area: u32) -> Result<Name, fmt::Error> {
-        let mut name = Name {
+impl AreaName {
+    fn of(rank: u32, area: u32) -> Result<AreaName, fmt::Error> {
+        let mut name = AreaName {
             bytes: [0; 32],
             len: 0,
         };
@@ -115,7 +115,7 @@ impl Name {
     }
 }
 
-impl fmt::Write for Name {
+impl fmt::Write for AreaName {
     fn write_str(&mut self, text: &str) -> fmt::Result {
         let bytes = text.as_bytes();
         if bytes.len() > 32 - self.len {
@@ -130,7 +130,7 @@ impl fmt::Write for Name {
 
 /// An area's file, opened as asked.
 fn open<R: rt::Files>(rt: &R, how: &OpenOptions, rank: u32, area: u32) -> io::Result<R::File> {
-    let Ok(name) = Name::of(rank, area) else {
+    let Ok(name) = AreaName::of(rank, area) else {
         return Err(io::Error::from(ErrorKind::InvalidInput));
     };
     match str::from_utf8(name.as_bytes()) {

@@ -9,7 +9,7 @@ use Rattle.mls_model.specs.Lanes.{Lane}
 use Rattle.mls_model.specs.Schedules.{event_count, is_lane_of, is_legal_order, is_legal, is_complete, plain_order, plain}
 use Rattle.mls_text.proofs.Counted.{length-below}
 use Rattle.mls_tape.proofs.Entries.{count_of, lane_of_rank}
-use Rattle.mls_tape.proofs.Plain.{share, shares, plain_start}
+use Rattle.mls_tape.proofs.Plain.{turns, turns_from, plain_start}
 
 -- ---- tests
 
@@ -57,39 +57,39 @@ same_cond : (b : Bool) → ◌≡◌ {A = ℕ} (cond b 0 0) 0
 same_cond true = refl
 same_cond false = refl
 
-share_cases : (b : Bool) (k : ℕ) (xs : List ℕ) → times k (cond b xs []) ≡ cond b (times k xs) 0
-share_cases true k xs = refl
-share_cases false k xs = refl
+turns_cases : (b : Bool) (k : ℕ) (xs : List ℕ) → times k (cond b xs []) ≡ cond b (times k xs) 0
+turns_cases true k xs = refl
+turns_cases false k xs = refl
 
-share_other : (rank o k : ℕ) (l : Lane) → (o ≡ k → ⊥) → times k (share rank (o, l)) ≡ 0
-share_other rank o k l ne = share_cases (eqb l.rank rank) k (replicate (length l.frames) o) ∙ ap (λ (n : ℕ). cond (eqb l.rank rank) n 0) (times_other k o (length l.frames) ne) ∙ same_cond (eqb l.rank rank)
+turns_other : (rank o k : ℕ) (l : Lane) → (o ≡ k → ⊥) → times k (turns rank (o, l)) ≡ 0
+turns_other rank o k l ne = turns_cases (eqb l.rank rank) k (replicate (length l.frames) o) ∙ ap (λ (n : ℕ). cond (eqb l.rank rank) n 0) (times_other k o (length l.frames) ne) ∙ same_cond (eqb l.rank rank)
 
-share_here : (rank o : ℕ) (l : Lane) → times o (share rank (o, l)) ≡ cond (eqb l.rank rank) (length l.frames) 0
-share_here rank o l = share_cases (eqb l.rank rank) o (replicate (length l.frames) o) ∙ ap (λ (n : ℕ). cond (eqb l.rank rank) n 0) (times_same o (length l.frames))
+turns_here : (rank o : ℕ) (l : Lane) → times o (turns rank (o, l)) ≡ cond (eqb l.rank rank) (length l.frames) 0
+turns_here rank o l = turns_cases (eqb l.rank rank) o (replicate (length l.frames) o) ∙ ap (λ (n : ℕ). cond (eqb l.rank rank) n 0) (times_same o (length l.frames))
 
 -- no number below the first stands
-shares_below : (rank o k : ℕ) (lanes : List Lane) → k < o → times k (shares rank o lanes) ≡ 0
-shares_below rank o k [] lt = refl
-shares_below rank o k (l ∷ lanes) lt =
-    omega (arith, times-append k (share rank (o, l)) (shares rank (o + 1) lanes), share_other rank o k l (λ e. absurd (omega arith)), shares_below rank (o + 1) k lanes (omega arith))
+turns_below : (rank o k : ℕ) (lanes : List Lane) → k < o → times k (turns_from rank o lanes) ≡ 0
+turns_below rank o k [] lt = refl
+turns_below rank o k (l ∷ lanes) lt =
+    omega (arith, times-append k (turns rank (o, l)) (turns_from rank (o + 1) lanes), turns_other rank o k l (λ e. absurd (omega arith)), turns_below rank (o + 1) k lanes (omega arith))
 
-shares_at : (rank o j : ℕ) (lanes : List Lane) → times (o + j) (shares rank o lanes) ≡ cond (is_lane_of lanes rank j) (event_count lanes j) 0
-shares_at rank o j [] = refl
-shares_at rank o zero (l ∷ lanes) =
-    let here = share_here rank o l in
-    let rest = shares_below rank (o + 1) o lanes (omega arith) in
+turns_at : (rank o j : ℕ) (lanes : List Lane) → times (o + j) (turns_from rank o lanes) ≡ cond (is_lane_of lanes rank j) (event_count lanes j) 0
+turns_at rank o j [] = refl
+turns_at rank o zero (l ∷ lanes) =
+    let here = turns_here rank o l in
+    let rest = turns_below rank (o + 1) o lanes (omega arith) in
     let at : o + 0 ≡ o = omega arith in
-    ap (λ (n : ℕ). times n (shares rank o (l ∷ lanes))) at ∙ omega (arith, times-append o (share rank (o, l)) (shares rank (o + 1) lanes), here, rest)
-shares_at rank o (suc j) (l ∷ lanes) =
-    let here = share_other rank o (o + suc j) l (λ e. absurd (omega arith)) in
+    ap (λ (n : ℕ). times n (turns_from rank o (l ∷ lanes))) at ∙ omega (arith, times-append o (turns rank (o, l)) (turns_from rank (o + 1) lanes), here, rest)
+turns_at rank o (suc j) (l ∷ lanes) =
+    let here = turns_other rank o (o + suc j) l (λ e. absurd (omega arith)) in
     let at : o + suc j ≡ (o + 1) + j = omega arith in
-    let rest = ap (λ (n : ℕ). times n (shares rank (o + 1) lanes)) at ∙ shares_at rank (o + 1) j lanes in
-    omega (arith, times-append (o + suc j) (share rank (o, l)) (shares rank (o + 1) lanes), here, rest)
+    let rest = ap (λ (n : ℕ). times n (turns_from rank (o + 1) lanes)) at ∙ turns_at rank (o + 1) j lanes in
+    omega (arith, times-append (o + suc j) (turns rank (o, l)) (turns_from rank (o + 1) lanes), here, rest)
 
 plain_times : (lanes : List Lane) (rank k : ℕ) → times k (plain_order lanes rank) ≡ cond (is_lane_of lanes rank k) (event_count lanes k) 0
 plain_times lanes rank k =
     let at : 0 + k ≡ k = omega arith in
-    ap (λ (xs : List ℕ). times k xs) (sym (plain_start lanes rank)) ∙ ap (λ (n : ℕ). times n (shares rank 0 lanes)) (sym at) ∙ shares_at rank 0 k lanes
+    ap (λ (xs : List ℕ). times k xs) (sym (plain_start lanes rank)) ∙ ap (λ (n : ℕ). times n (turns_from rank 0 lanes)) (sym at) ∙ turns_at rank 0 k lanes
 
 standing_is_legal : (b : Bool) (n c : ℕ) → n ≡ cond b c 0 → 1 ≤ n → (b && leb n c) ≡ true
 standing_is_legal true n c e some = le-leb n c (omega arith)

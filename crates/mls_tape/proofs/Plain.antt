@@ -7,12 +7,12 @@ use Rattle.mls_model.specs.Lanes.{Lane}
 use Rattle.mls_model.specs.Schedules.{plain_order}
 
 -- what a lane with its number adds to a rank's list
-abbrev pub share : ℕ → ℕ × Lane → List ℕ
-share rank p = cond (eqb p.1.rank rank) (replicate (length p.1.frames) p.0) []
+abbrev pub turns : ℕ → ℕ × Lane → List ℕ
+turns rank p = cond (eqb p.1.rank rank) (replicate (length p.1.frames) p.0) []
 
 -- what the lanes from one on add
-abbrev pub shares : ℕ → ℕ → List Lane → List ℕ
-shares rank k lanes = flat_map (share rank) (enumerate_from k lanes)
+abbrev pub turns_from : ℕ → ℕ → List Lane → List ℕ
+turns_from rank k lanes = flat_map (turns rank) (enumerate_from k lanes)
 
 same_lane : (l m : Lane) → ◌≡◌ {A = Option Lane} (Some l) (Some m) → l ≡ m
 same_lane l m e = cc
@@ -23,19 +23,19 @@ drop_element (m ∷ lanes) zero l e = ap (λ (x : Lane). x ∷ lanes) (same_lane
 drop_element (m ∷ lanes) (suc k) l e = let up : suc (k + 1) ≡ suc k + 1 = omega arith in
     drop_element lanes k l e ∙ ap (λ (n : ℕ). l ∷ drop n (m ∷ lanes)) up
 
-pub share_step : (lanes : List Lane) (rank k : ℕ) (l : Lane) (found total : List ℕ) → element lanes k ≡ Some l → found ++ shares rank k (drop k lanes) ≡ total → (found ++ share rank (k, l)) ++ shares rank (k + 1) (drop (k + 1) lanes) ≡ total
-share_step lanes rank k l found total e so_far =
-    append_assoc found (share rank (k, l)) (shares rank (k + 1) (drop (k + 1) lanes))
-    ∙ ap (λ (ls : List Lane). found ++ shares rank k ls) (sym (drop_element lanes k l e))
+pub turns_step : (lanes : List Lane) (rank k : ℕ) (l : Lane) (found total : List ℕ) → element lanes k ≡ Some l → found ++ turns_from rank k (drop k lanes) ≡ total → (found ++ turns rank (k, l)) ++ turns_from rank (k + 1) (drop (k + 1) lanes) ≡ total
+turns_step lanes rank k l found total e so_far =
+    append_assoc found (turns rank (k, l)) (turns_from rank (k + 1) (drop (k + 1) lanes))
+    ∙ ap (λ (ls : List Lane). found ++ turns_from rank k ls) (sym (drop_element lanes k l e))
     ∙ so_far
 
-pub plain_start : (lanes : List Lane) (rank : ℕ) → shares rank 0 lanes ≡ plain_order lanes rank
+pub plain_start : (lanes : List Lane) (rank : ℕ) → turns_from rank 0 lanes ≡ plain_order lanes rank
 unfolding plain_order
 plain_start lanes rank = refl
 
 -- a lane of the rank adds its number as often as it has events, and any other lane adds nothing
-pub share_taken : (rank k : ℕ) (l : Lane) (n : ℕ) → l.rank ≡ rank → n ≡ length l.frames → share rank (k, l) ≡ replicate n k
-share_taken rank k l n same is = rw (eq-eqb l.rank rank same, is) refl
+pub turns_taken : (rank k : ℕ) (l : Lane) (n : ℕ) → l.rank ≡ rank → n ≡ length l.frames → turns rank (k, l) ≡ replicate n k
+turns_taken rank k l n same is = rw (eq-eqb l.rank rank same, is) refl
 
-pub share_left : (rank k : ℕ) (l : Lane) → (l.rank ≡ rank → ⊥) → share rank (k, l) ≡ []
-share_left rank k l other = rw (ne_eqb l.rank rank other) refl
+pub turns_left : (rank k : ℕ) (l : Lane) → (l.rank ≡ rank → ⊥) → turns rank (k, l) ≡ []
+turns_left rank k l other = rw (ne_eqb l.rank rank other) refl

@@ -7,7 +7,7 @@ use Rattle.std.proofs.lemmas.List.{take-append-drop, drop-drop, length-append, g
 use Rattle.mls_model.specs.declared.lanes.TapeWhy.TheVariants as why
 use Rattle.mls_model.specs.Numbers.{joined, element, same_bytes}
 use Rattle.mls_model.specs.Frames.{Frame, IsFrame, spelling, whole, sight}
-use Rattle.mls_model.specs.Lanes.{◌>>=◌, Read, TapeRefusal, refused, bytes_at, number_at, Lane, LaneBytes, kind_of, lane_at, lanes_at, samples_at, lanes_of, lane_frames, lane_rest, lane_of, counted, tape_of}
+use Rattle.mls_model.specs.Lanes.{◌>>=◌, Read, TapeRefusal, refused, bytes_at, number_at, Lane, LaneBytes, kind_of, lane_at, lanes_at, samples_byte, lane_bytes_of, lane_frames, lane_rest, lane_of, with_events, tape_of}
 use Rattle.mls_frame.specs.Views.{AreBytes}
 use Rattle.mls_frame.proofs.Places.{AreBytes-drop}
 use Rattle.mls_frame.proofs.Again.{seen_again}
@@ -163,7 +163,7 @@ abbrev after_head : ℕ → ℕ × List ℕ → Read (List LaneBytes)
 after_head ranks head = number_at w32 head.0 head.1 >>= after_count ranks head
 
 abbrev after_version : ℕ → Bool → ℕ × List ℕ → Read (List LaneBytes)
-after_version ranks signed known = samples_at signed known.0 known.1 >>= after_head ranks
+after_version ranks signed known = samples_byte signed known.0 known.1 >>= after_head ranks
 
 abbrev after_number : ℕ → Bool → ℕ × List ℕ → Read (List LaneBytes)
 after_number ranks signed version = cond ((eqb version.0 2) || ((eqb version.0 1) && not signed)) (Ok version) (refused 4 why.Version) >>= after_version ranks signed
@@ -185,21 +185,21 @@ samples_test signed false tape bytes x is e =
     let seven : drop 7 tape ≡ a.0.1 = sym (drop-drop 1 6 tape) ∙ ap (λ (t : List ℕ). drop 1 t) is ∙ sym (number_left w8 6 bytes a.0 a.1) in
     subst (λ (y : ℕ × List ℕ). drop y.0 tape ≡ y.1) same seven
 
-samples_left : (signed : Bool) (version : ℕ) (tape bytes : List ℕ) (x : ℕ × List ℕ) → drop 6 tape ≡ bytes → samples_at signed version bytes ≡ Ok x → drop x.0 tape ≡ x.1
-unfolding samples_at
+samples_left : (signed : Bool) (version : ℕ) (tape bytes : List ℕ) (x : ℕ × List ℕ) → drop 6 tape ≡ bytes → samples_byte signed version bytes ≡ Ok x → drop x.0 tape ≡ x.1
+unfolding samples_byte
 samples_left signed version tape bytes x is e = samples_test signed (eqb version 1) tape bytes x is e
 
 bytes_drop : (n at : ℕ) (bytes : List ℕ) (x : List ℕ × List ℕ) → bytes_at n at bytes ≡ Ok x → x.1 ≡ drop n bytes
 bytes_drop n at bytes x e = ap (λ (p : List ℕ × List ℕ). p.1) (sym (guard_ok (ltb (length bytes) n) (record { at = at; why = why.Cut }) (take n bytes, drop n bytes) x e))
 
-pub parts_of : (ranks : ℕ) (signed : Bool) (tape : List ℕ) (ps : List LaneBytes) → lanes_of ranks signed tape ≡ Ok ps → AllByRecursion (IsPart tape ranks) ps × (length ps ≤ 65535)
-unfolding lanes_of
+pub parts_of : (ranks : ℕ) (signed : Bool) (tape : List ℕ) (ps : List LaneBytes) → lane_bytes_of ranks signed tape ≡ Ok ps → AllByRecursion (IsPart tape ranks) ps × (length ps ≤ 65535)
+unfolding lane_bytes_of
 parts_of ranks signed tape ps e =
     let a = bind_ok (bytes_at 4 0 tape) (after_mark ranks signed) ps e in
     let b = bind_ok (cond (same_bytes a.0.0 (codes "MTAP")) (Ok a.0) (refused 0 why.Magic)) (after_magic ranks signed) ps a.2 in
     let c = bind_ok (number_at w16 4 b.0.1) (after_number ranks signed) ps b.2 in
     let d = bind_ok (cond ((eqb c.0.0 2) || ((eqb c.0.0 1) && not signed)) (Ok c.0) (refused 4 why.Version)) (after_version ranks signed) ps c.2 in
-    let f = bind_ok (samples_at signed d.0.0 d.0.1) (after_head ranks) ps d.2 in
+    let f = bind_ok (samples_byte signed d.0.0 d.0.1) (after_head ranks) ps d.2 in
     let g = bind_ok (number_at w32 f.0.0 f.0.1) (after_count ranks f.0) ps f.2 in
     let h = bind_ok (cond (ltb 65535 g.0.0) (refused f.0.0 why.TooManyLanes) (Ok g.0)) (after_some ranks f.0) ps g.2 in
     let marked : a.0 ≡ b.0 = test_ok (same_bytes a.0.0 (codes "MTAP")) (record { at = 0; why = why.Magic }) a.0 b.0 b.1 in
@@ -279,11 +279,11 @@ lanes_made-length (p ∷ ps) = ap suc (lanes_made-length ps)
 
 -- ---- the tape
 
-tape_read : (ranks : ℕ) (signed : Bool) (bytes : List ℕ) (ps : List LaneBytes) → lanes_of ranks signed bytes ≡ Ok ps → tape_of ranks signed bytes ≡ counted 0 ps
+tape_read : (ranks : ℕ) (signed : Bool) (bytes : List ℕ) (ps : List LaneBytes) → lane_bytes_of ranks signed bytes ≡ Ok ps → tape_of ranks signed bytes ≡ with_events 0 ps
 unfolding tape_of
-tape_read ranks signed bytes ps e = ap (λ (r : Read (List LaneBytes)). r >>= counted 0) e
+tape_read ranks signed bytes ps e = ap (λ (r : Read (List LaneBytes)). r >>= with_events 0) e
 
-pub tables_fit : (ranks : ℕ) (signed : Bool) (bytes : List ℕ) (ps : List LaneBytes) (entries : List Entry) (starts : List ℕ) → AreBytes bytes → lanes_of ranks signed bytes ≡ Ok ps → counted 0 ps ≡ Ok (lanes_made ps) → entries ≡ entries_of 0 (lanes_made ps) → starts ≡ all_starts ps → TablesFit ranks signed bytes entries starts
+pub tables_fit : (ranks : ℕ) (signed : Bool) (bytes : List ℕ) (ps : List LaneBytes) (entries : List Entry) (starts : List ℕ) → AreBytes bytes → lane_bytes_of ranks signed bytes ≡ Ok ps → with_events 0 ps ≡ Ok (lanes_made ps) → entries ≡ entries_of 0 (lanes_made ps) → starts ≡ all_starts ps → TablesFit ranks signed bytes entries starts
 tables_fit ranks signed bytes ps entries starts h read count table begins =
     let tape : tape_of ranks signed bytes ≡ Ok (lanes_made ps) = tape_read ranks signed bytes ps read ∙ count in
     let lanes : lanes_in ranks signed bytes ≡ lanes_made ps = ap (λ (r : Read (List Lane)). elim r [ Ok ls ↦ ls | Err e ↦ [] ]) tape in
@@ -295,10 +295,10 @@ tables_fit ranks signed bytes ps entries starts h read count table begins =
       known = subst (λ (ls : List Lane). AllByRecursion (λ (l : Lane). l.rank < ranks) ls) (sym lanes) (ranks_made bytes ranks ps (parts_of ranks signed bytes ps read).0);
     }
 
-pub table_fails : (ranks : ℕ) (signed : Bool) (bytes : List ℕ) (e : TapeFault) → Fails e (lanes_of ranks signed bytes) → Fails e (tape_of ranks signed bytes)
+pub table_fails : (ranks : ℕ) (signed : Bool) (bytes : List ℕ) (e : TapeFault) → Fails e (lane_bytes_of ranks signed bytes) → Fails e (tape_of ranks signed bytes)
 unfolding tape_of
 table_fails ranks signed bytes faults.Memory h = tt
-table_fails ranks signed bytes (faults.Bad at why) h = ap (λ (r : Read (List LaneBytes)). r >>= counted 0) h
+table_fails ranks signed bytes (faults.Bad at why) h = ap (λ (r : Read (List LaneBytes)). r >>= with_events 0) h
 
-pub count_fails : (ranks : ℕ) (signed : Bool) (bytes : List ℕ) (ps : List LaneBytes) (e : TapeFault) → lanes_of ranks signed bytes ≡ Ok ps → Fails e (counted 0 ps) → Fails e (tape_of ranks signed bytes)
+pub count_fails : (ranks : ℕ) (signed : Bool) (bytes : List ℕ) (ps : List LaneBytes) (e : TapeFault) → lane_bytes_of ranks signed bytes ≡ Ok ps → Fails e (with_events 0 ps) → Fails e (tape_of ranks signed bytes)
 count_fails ranks signed bytes ps e read h = subst (λ (r : Read (List Lane)). Fails e r) (sym (tape_read ranks signed bytes ps read)) h

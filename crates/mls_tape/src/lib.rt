@@ -5,7 +5,7 @@ pub mod decoded;
 pub mod faults;
 pub mod laws;
 mod lines;
-mod part;
+mod lane_stretch;
 mod scanning;
 pub mod schedule;
 mod table;

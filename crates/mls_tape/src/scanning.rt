@@ -3,12 +3,12 @@
 ghost use Rattle.std.specs.Prelude.{◌≡◌, ℕ, ◌+◌, ◌<◌, ◌≤◌, ◌^◌, ◌++◌, length, map, Ok, MatchResult, OnOk, IfOk};
 ghost use Rattle.mls_model.specs.Numbers.{joined};
 ghost use Rattle.mls_model.specs.Frames.{spelling};
-ghost use Rattle.mls_model.specs.Lanes.{lane_frames, lane_rest, end_at, counted};
+ghost use Rattle.mls_model.specs.Lanes.{lane_frames, lane_rest, end_at, with_events};
 ghost use Rattle.mls_tape.specs.Reading.{Fails, lane_bytes, all_lane_bytes};
 ghost use Rattle.mls_tape.specs.Scans.{starts_from, all_starts, lanes_made, entries_of};
 
 use crate::faults::TapeFault;
-use crate::part::Part;
+use crate::lane_stretch::LaneStretch;
 use mls_base::faults::NoMemory;
 use mls_frame::{FrameFault, Seen, view};
 use mls_model::lanes::{LaneEnd, LaneKind, TapeWhy};
@@ -90,11 +90,11 @@ fn add_starts(starts: &mut Vec<u32>, start: u64, lane: &[u8]) -> Result<(), NoMe
 }
 
 /// What a tape keeps of each lane, with the number of all events.
-pub fn entries_of(alloc: Global, parts: &[Part<'_>]) -> Result<(Vec<Entry>, u32), TapeFault>
+pub fn entries_of(alloc: Global, parts: &[LaneStretch<'_>]) -> Result<(Vec<Entry>, u32), TapeFault>
     ensures { MatchResult result
-        (λ x. (counted 0 (all_lane_bytes parts.now) ≡ Ok (lanes_made (all_lane_bytes parts.now)))
+        (λ x. (with_events 0 (all_lane_bytes parts.now) ≡ Ok (lanes_made (all_lane_bytes parts.now)))
         × (x.0.items ≡ entries_of 0 (lanes_made (all_lane_bytes parts.now))))
-        (λ e. Fails e (counted 0 (all_lane_bytes parts.now))) }
+        (λ e. Fails e (with_events 0 (all_lane_bytes parts.now))) }
 {
     let mut entries = Vec::new(alloc);
     let mut before = 0u32;
@@ -120,7 +120,7 @@ pub fn entries_of(alloc: Global, parts: &[Part<'_>]) -> Result<(Vec<Entry>, u32)
 }
 
 /// The place of each event, lane after lane. All memory is taken at once.
-pub fn starts_of(alloc: Global, events: u32, parts: &[Part<'_>]) -> Result<Vec<u32>, NoMemory>
+pub fn starts_of(alloc: Global, events: u32, parts: &[LaneStretch<'_>]) -> Result<Vec<u32>, NoMemory>
     ensures { IfOk result (λ v. v.items ≡ all_starts (all_lane_bytes parts.now)) }
 {
     let mut starts = match Vec::with_capacity(alloc, events as usize) {

@@ -3,11 +3,11 @@
 ghost use Rattle.std.specs.Prelude.{◌≡◌, ℕ, ◌+◌, ◌≤◌, ◌<◌, ◌^◌, ◌==◌, ◌&&◌, ◌||◌, not, cond, length, codes, IfOk};
 ghost use Rattle.std.specs.Int.{w8, w16, w32};
 ghost use Rattle.mls_model.specs.Numbers.{same_bytes};
-ghost use Rattle.mls_model.specs.Lanes.{bytes_at, number_at, lane_at, lanes_at, samples_at, lanes_of, kind_of};
+ghost use Rattle.mls_model.specs.Lanes.{bytes_at, number_at, lane_at, lanes_at, samples_byte, lane_bytes_of, kind_of};
 ghost use Rattle.mls_tape.specs.Reading.{Gives, lane_bytes, all_lane_bytes};
 
 use crate::faults::TapeFault;
-use crate::part::Part;
+use crate::lane_stretch::LaneStretch;
 use mls_model::lanes::{LaneKind, TapeWhy};
 use std::alloc::Global;
 
@@ -81,7 +81,7 @@ fn kind_of(code: u8) -> LaneKind
 
 /// A lane of the table, and the bytes after it.
 #[tactic(auto, unfolding(mls_model::specs::Lanes::lane_at))]
-fn lane_at(ranks: u32, at: u64, bytes: &[u8]) -> Result<(Part<'_>, &[u8]), TapeFault>
+fn lane_at(ranks: u32, at: u64, bytes: &[u8]) -> Result<(LaneStretch<'_>, &[u8]), TapeFault>
     requires { at + length bytes.now < 2 ^ 32 }
     ensures exact { Gives (λ x. (lane_bytes x.0, x.1.now)) result (lane_at ranks at bytes.now) }
     ensures left { IfOk result (λ x. 7 + length x.0.bytes.now + length x.1.now ≡ length bytes.now) }
@@ -104,7 +104,7 @@ fn lane_at(ranks: u32, at: u64, bytes: &[u8]) -> Result<(Part<'_>, &[u8]), TapeF
     let (size, rest) = u32_at(at + 3, rest)?;
     let (lane, rest) = bytes_at(size as usize, at + 7, rest)?;
     Ok((
-        Part {
+        LaneStretch {
             rank,
             kind: kind_of(kind),
             at: at + 7,
@@ -121,7 +121,7 @@ fn lanes_at(
     ranks: u32,
     start: u64,
     bytes: &[u8],
-) -> Result<Vec<Part<'_>>, TapeFault>
+) -> Result<Vec<LaneStretch<'_>>, TapeFault>
     requires { start + length bytes.now < 2 ^ 32 }
     ensures { Gives (λ v. all_lane_bytes v.items) result (lanes_at count ranks start bytes.now) }
 {
@@ -157,9 +157,9 @@ fn is_known(version: u16, signed: bool) -> bool
 }
 
 /// Where the number of lanes stands, after the samples byte that version 2 alone has.
-#[tactic(auto, unfolding(mls_model::specs::Lanes::samples_at))]
-fn samples_at(signed: bool, version: u16, bytes: &[u8]) -> Result<(u64, &[u8]), TapeFault>
-    ensures exact { Gives (λ x. (x.0, x.1.now)) result (samples_at signed version bytes.now) }
+#[tactic(auto, unfolding(mls_model::specs::Lanes::samples_byte))]
+fn samples_byte(signed: bool, version: u16, bytes: &[u8]) -> Result<(u64, &[u8]), TapeFault>
+    ensures exact { Gives (λ x. (x.0, x.1.now)) result (samples_byte signed version bytes.now) }
     ensures left { IfOk result (λ x. (x.0 ≤ 7) × (length x.1.now ≤ length bytes.now)) }
 {
     if version == 1 {
@@ -176,15 +176,15 @@ fn samples_at(signed: bool, version: u16, bytes: &[u8]) -> Result<(u64, &[u8]), 
 }
 
 /// The lanes of a tape, before their events are counted.
-#[tactic(auto, unfolding(mls_model::specs::Lanes::lanes_of))]
-pub fn lanes_of(
+#[tactic(auto, unfolding(mls_model::specs::Lanes::lane_bytes_of))]
+pub fn lane_bytes_of(
     alloc: Global,
     ranks: u32,
     signed: bool,
     bytes: &[u8],
-) -> Result<Vec<Part<'_>>, TapeFault>
+) -> Result<Vec<LaneStretch<'_>>, TapeFault>
     requires { length bytes.now ≤ 1073741824 }
-    ensures { Gives (λ v. all_lane_bytes v.items) result (lanes_of ranks signed bytes.now) }
+    ensures { Gives (λ v. all_lane_bytes v.items) result (lane_bytes_of ranks signed bytes.now) }
 {
     let (magic, rest) = bytes_at(4, 0, bytes)?;
     if !is_magic(magic) {
@@ -200,7 +200,7 @@ pub fn lanes_of(
             why: TapeWhy::Version,
         });
     }
-    let (at, rest) = samples_at(signed, version, rest)?;
+    let (at, rest) = samples_byte(signed, version, rest)?;
     let (count, rest) = u32_at(at, rest)?;
     if count > 65_535 {
         return Err(TapeFault::Bad {

@@ -1,5 +1,5 @@
-use Rattle.mls_base.proofs.Sharing.{shares_partition}
+use Rattle.mls_base.proofs.Spans.{spans_partition}
 use Rattle.mls_base.proofs.laws.blocks_partition.Goals as goal
 
 pub returns : goal.returns
-returns c s sizes = shares_partition s.cells s.ranks sizes.some_ranks
+returns c s sizes = spans_partition s.cells s.ranks sizes.some_ranks

@@ -1,9 +1,8 @@
 use Rattle.std.proofs.Common.{List, ℕ, ◌∙◌, ap, subst}
 use Rattle.mls_base.specs.Told.{appended, WroteFront}
-use Rattle.mls_result.specs.Histories.{history_text}
-use Rattle.mls_replay.specs.Folding.{histories_of}
 use Rattle.mls_replay.proofs.Folds.{text_is}
 use Rattle.mls_replay.proofs.folding.write_cores.Goals as goal
+use Rattle.mls_model.specs.ResultText.{histories_of, history_text}
 
 pub returns-in-Ok : goal.returns-in-Ok
 returns-in-Ok g c =

@@ -1,6 +1,6 @@
 -- The empty list of events, and one more.
 use Rattle.std.proofs.Common.{◌≡◌, ◌+◌, [], length, take, subst, sym, ◌∙◌, ap, arith}
-use Rattle.mls_laws.specs.OneMore.{total}
+use Rattle.mls_model.specs.Outcomes.{total_count}
 use Rattle.mls_rank.specs.Standing.{StandsFor}
 use Rattle.mls_replay.specs.Taken.{AreTaken}
 use Rattle.mls_replay.proofs.Taking.{history_none, none_taken, written_back}
@@ -10,7 +10,7 @@ pub loop-place-init : goal.loop-place-init
 loop-place-init g c = (
   subst (StandsFor c.in_ok-core.core) (sym (history_none c.args.tape.now.lanes)) c.in_ok-core.ensures.stands,
   subst (λ n. AreTaken c.in_ok-taken.taken.items n []) c.lane_count.ensures (none_taken c.in_ok-taken.taken.items c.lane_count.result (c.in_ok-taken.ensures.items_if_clones_equal (λ y e. e))),
-  omega (arith, ap total c.in_ok-core.ensures.counts),
+  omega (arith, ap total_count c.in_ok-core.ensures.counts),
   c.in_ok-core.ensures.sizes,
   c.in_ok-core.ensures.rank,
 )

@@ -1,7 +1,7 @@
 -- The event that a place names is the next of its lane.
 use Rattle.std.proofs.Common.{get_or, take, Some, subst, arith, ap, sym, ◌∙◌}
 use Rattle.mls_frame.specs.Views.{frame_of}
-use Rattle.mls_model.specs.Histories.{Event, history}
+use Rattle.mls_model.specs.Histories.{LaneEvent, history}
 use Rattle.mls_replay.proofs.CalmEvents.{calm_event}
 use Rattle.mls_replay.proofs.Taking.{is_left, taken_more, history_taken, same_event}
 use Rattle.mls_rank.specs.Standing.{StandsFor}
@@ -32,7 +32,7 @@ returns-clause-counted g c = taken_more c.args.taken.now _ c.args.order.now c.ar
 
 pub returns-clause-stands : goal.returns-clause-stands
 returns-clause-stands g c = λ stands.
-    let e : Event = record { kind = c.kind.result; frame = frame_of c.view.result.now } in
+    let e : LaneEvent = record { kind = c.kind.result; frame = frame_of c.view.result.now } in
     let same = same_event c.kind.result c.event-event.result.kind (frame_of c.view.result.now) c.event-event.result.frame c.kind.ensures c.view.ensures in
     let there = c.event-event.ensures.event ∙ ap Some (sym same) in
     let left = is_left c.args.tape.now.lanes (rank_of c.args.core.now) c.args.order.now c.args.place c.args.taken.now c.requires.legal c.requires.here c.requires.counted in

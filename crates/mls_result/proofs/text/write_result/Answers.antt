@@ -4,10 +4,10 @@ use Rattle.mls_field.specs.Stands.{StandsFor}
 use Rattle.mls_rank.specs.Cores.{rank_of as core_rank, fold_of}
 use Rattle.mls_rank.proofs.Folds.{fold_sizes, fold_rank}
 use Rattle.mls_text.specs.Writing.{Writes}
-use Rattle.mls_result.specs.Histories.{pieces_of}
 use Rattle.mls_result.proofs.States.{FoldsStand, states_are}
 use Rattle.mls_result.proofs.Whole.{counts_are}
 use Rattle.mls_result.proofs.text.write_result.Goals as goal
+use Rattle.mls_model.specs.ResultText.{pieces_of}
 
 pub returns-clause-histories : goal.returns-clause-histories
 returns-clause-histories g c = λ histories stand.

@@ -1,9 +1,9 @@
 use Rattle.std.proofs.Common.{◌≡◌, ap, ◌∙◌}
-use Rattle.mls_model.specs.Histories.{Event}
+use Rattle.mls_model.specs.Histories.{LaneEvent}
 use Rattle.mls_model.specs.Survival.{surviving}
 use Rattle.mls_model.specs.Fitting.{fitting}
 use Rattle.mls_model.specs.Outcomes.{outcome}
-use Rattle.mls_laws.specs.OneMore.{counted}
+use Rattle.mls_model.specs.Outcomes.{counted}
 use Rattle.mls_frame.specs.Views.{frame_of}
 use Rattle.mls_laws.proofs.Fits.{all_fit}
 use Rattle.mls_rank.proofs.Stepping.{outcome_is, counts_step, counts_at, holds_step, waits_step}
@@ -19,7 +19,7 @@ pub returns-clause-stands : goal.returns-clause-stands
 returns-clause-stands g c = λ history st none.
     let core = c.args.self.now in
     let taken = c.in_ok-outcome.ensures in
-    let e : Event = record { kind = c.args.kind; frame = frame_of c.args.view.now } in
+    let e : LaneEvent = record { kind = c.args.kind; frame = frame_of c.args.view.now } in
     let was : c.in_ok-outcome.outcome ≡ outcome core.shape core.rank (surviving history) (record { kind = c.args.kind; frame = frame_of c.args.view.now }) = returns-clause-outcome g c history st in
     let keeps = taken.keeps (fitting core.shape core.rank (surviving history)) (all_fit core.shape core.rank (surviving history)) (record { holds = st.holds; waits = st.waits }) in
     record {

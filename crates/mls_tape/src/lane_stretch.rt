@@ -6,7 +6,7 @@ use mls_model::lanes::LaneKind;
 
 /// The bytes of a lane, and where they begin in the tape.
 #[derive(Drop)]
-pub struct Part<'a> {
+pub struct LaneStretch<'a> {
     pub rank: u32,
     pub kind: LaneKind,
     pub at: u64,

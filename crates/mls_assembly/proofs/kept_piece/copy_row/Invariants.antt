@@ -1,5 +1,5 @@
 use Rattle.std.proofs.Common.{◌≡◌, ◌+◌, ◌*◌, take}
-use Rattle.mls_assembly.proofs.part.copy_row.Given as goal
+use Rattle.mls_assembly.proofs.kept_piece.copy_row.Given as goal
 
 abbrev pub invariant-loop-cell : goal.invariant-loop-cell
 invariant-loop-cell l = l.samples.items ≡ take (l.row * l.piece.count + l.cell) l.piece.samples

@@ -1,5 +1,5 @@
 use Rattle.std.proofs.Common.{◌≡◌, ◌*◌, take}
-use Rattle.mls_assembly.proofs.part.Part.of.Given as goal
+use Rattle.mls_assembly.proofs.kept_piece.KeptPiece.of.Given as goal
 
 abbrev pub invariant-loop-row : goal.invariant-loop-row
 invariant-loop-row l = l.samples.items ≡ take (l.row * l.piece.count) l.piece.samples

@@ -1,4 +1,4 @@
--- Shares of n over m cells: which share a cell is in.
+-- Shares of n over m cells: which nth_span a cell is in.
 use Rattle.std.proofs.Common.{◌≡◌, ℕ, zero, suc, ◌+◌, ◌-◌, ◌*◌, ◌/◌, ◌<◌, ◌≤◌, ◌↔◌, Bool, true, false, ◌&&◌, leb, ltb, cond, [], ◌∷◌, Option, Some, None, min, max, refl, sym, ◌∙◌, ap, arith, IsTrue, ◌⊎◌, inl, inr}
 use Rattle.std.specs.List.{find}
 use Rattle.std.proofs.Math.Nat.{div-lt_iff_lt-mul, div-eq_of_lt-le, le-div_iff_mul-le, mul-le-mul_right, le_of_mul-le-mul_right, div-mul-le_self, lt-div-mul-add, div-le_of_le-mul}
@@ -8,7 +8,7 @@ use Rattle.std.proofs.lemmas.Nat.{le-div}
 use Rattle.std.proofs.lemmas.Bool.{cases_Bool, leb-true, ltb-true, le-leb, lt-ltb, false≢true}
 use Rattle.mls_model.specs.Numbers.{below}
 use Rattle.mls_model.specs.declared.blocks.Span.{Span}
-use Rattle.mls_model.specs.Blocks.{share, is_in_span, meet}
+use Rattle.mls_model.specs.Blocks.{nth_span, is_in_span, meet}
 use Rattle.mls_base.specs.Partitions.{ArePartition}
 
 both : (a b : Bool) → (a && b) ≡ true → (a ≡ true) × (b ≡ true)
@@ -24,7 +24,7 @@ bounds span x h =
 pub in_span : (span : Span) (x : ℕ) → span.first ≤ x → x < span.end → IsTrue (is_in_span span x)
 in_span span x low high = rw (le-leb span.first x low) (lt-ltb x span.end high)
 
--- the share that holds a cell
+-- the nth_span that holds a cell
 abbrev pub holder : ℕ → ℕ → ℕ → ℕ
 holder m n x = ((x + 1) * n - 1) / m
 
@@ -44,21 +44,21 @@ below-div-from a n x some le =
     let h : x + 1 ≤ a / n = (le-div_iff_mul-le {k = n} {x = x + 1} {y = a} (omega arith)).1 le in
     omega arith
 
-pub holder_is : (m n x i : ℕ) → 1 ≤ n → IsTrue (is_in_span (share m n i) x) → i ≡ holder m n x
+pub holder_is : (m n x i : ℕ) → 1 ≤ n → IsTrue (is_in_span (nth_span m n i) x) → i ≡ holder m n x
 holder_is m n x i some h =
-    let b = bounds (share m n i) x h in
+    let b = bounds (nth_span m n i) x h in
     let low : i * m < (x + 1) * n = div-le (i * m) n x some b.0 in
     let high : (x + 1) * n ≤ (i + 1) * m = below-div ((i + 1) * m) n x some b.1 in
     let from : i * m ≤ (x + 1) * n - 1 = omega arith in
     let to : (x + 1) * n - 1 < (i + 1) * m = omega arith in
     sym (div-eq_of_lt-le {k = i} m {m = (x + 1) * n - 1} from to)
 
-pub holder_holds : (m n x : ℕ) → 1 ≤ n → 1 ≤ m → IsTrue (is_in_span (share m n (holder m n x)) x)
+pub holder_holds : (m n x : ℕ) → 1 ≤ n → 1 ≤ m → IsTrue (is_in_span (nth_span m n (holder m n x)) x)
 holder_holds m n x some cells =
     let q : ℕ = ((x + 1) * n - 1) / m in
     let from : q * m ≤ (x + 1) * n - 1 = div-mul-le_self ((x + 1) * n - 1) m in
     let to : (x + 1) * n - 1 < q * m + m = lt-div-mul-add {a = (x + 1) * n - 1} {b = m} (omega arith) in
-    in_span (share m n (holder m n x)) x
+    in_span (nth_span m n (holder m n x)) x
     (le-div-from (q * m) n x some (omega arith))
     (below-div-from ((q + 1) * m) n x some (omega arith))
 
@@ -67,28 +67,28 @@ holder_within m n x some within =
     let step : (x + 1) * n ≤ m * n = mul-le-mul_right n (omega arith) in
     (div-lt_iff_lt-mul {k = m} {x = (x + 1) * n - 1} {y = n} (omega arith)).1 (omega arith)
 
--- a share lies in the mesh
-pub share_inside : (m n i x : ℕ) → 1 ≤ n → i < n → IsTrue (is_in_span (share m n i) x) → x < m
-share_inside m n i x some within h =
-    let b = bounds (share m n i) x h in
+-- a nth_span lies in the mesh
+pub span_inside : (m n i x : ℕ) → 1 ≤ n → i < n → IsTrue (is_in_span (nth_span m n i) x) → x < m
+span_inside m n i x some within h =
+    let b = bounds (nth_span m n i) x h in
     let high : (x + 1) * n ≤ (i + 1) * m = below-div ((i + 1) * m) n x some b.1 in
     let most : (i + 1) * m ≤ n * m = mul-le-mul_right m (omega arith) in
     let product : (x + 1) * n ≤ m * n = omega arith in
     let below_m : x + 1 ≤ m = le_of_mul-le-mul_right {m = x + 1} {n = m} {k = n} product (omega arith) in
     omega arith
 
-pub shares_partition : (m n : ℕ) → 1 ≤ n → ArePartition n (share m n) (λ x. x < m)
-shares_partition m n some = record {
+pub spans_partition : (m n : ℕ) → 1 ≤ n → ArePartition n (nth_span m n) (λ x. x < m)
+spans_partition m n some = record {
   once = λ x within. record {
     one = holder m n x;
     within = holder_within m n x some within;
     holds = holder_holds m n x some (omega arith);
     only = λ i _ h. holder_is m n x i some h;
   };
-  inside = λ i within x h. share_inside m n i x some within h;
+  inside = λ i within x h. span_inside m n i x some within h;
 }
 
--- in what two spans share
+-- in what two spans nth_span
 pub in_meet : (a b : Span) (x : ℕ) → IsTrue (is_in_span (meet a b) x) ↔ (IsTrue (is_in_span a x) × IsTrue (is_in_span b x))
 in_meet a b x = (
   λ h. let both = bounds (meet a b) x h in (in_span a x (omega arith) (omega arith), in_span b x (omega arith) (omega arith)),
@@ -132,15 +132,15 @@ find_some p (suc n) h found =
       | inr w ↦ (omega arith, sym (ap p w.1) ∙ w.0)
     ]
 
--- the first share that holds a cell is the one that does
-pub share_found : (m n x i : ℕ) → 1 ≤ n → (find (λ j. is_in_span (share m n j) x) (below n) ≡ Some i) ↔ ((i < n) × IsTrue (is_in_span (share m n i) x))
-share_found m n x i some = (
-  find_some (λ j. is_in_span (share m n j) x) n i,
-  λ h. find_one (λ j. is_in_span (share m n j) x) n i h.0 h.1 (λ j _ holds. holder_is m n x j some holds ∙ sym (holder_is m n x i some h.1)),
+-- the first nth_span that holds a cell is the one that does
+pub span_found : (m n x i : ℕ) → 1 ≤ n → (find (λ j. is_in_span (nth_span m n j) x) (below n) ≡ Some i) ↔ ((i < n) × IsTrue (is_in_span (nth_span m n i) x))
+span_found m n x i some = (
+  find_some (λ j. is_in_span (nth_span m n j) x) n i,
+  λ h. find_one (λ j. is_in_span (nth_span m n j) x) n i h.0 h.1 (λ j _ holds. holder_is m n x j some holds ∙ sym (holder_is m n x i some h.1)),
 )
 
 -- the overlaps with the shares of n partition what they overlap with
-pub meets_partition : (m n : ℕ) (whole : Span) → 1 ≤ n → whole.end ≤ m → ArePartition n (λ i. meet whole (share m n i)) (λ x. IsTrue (is_in_span whole x))
+pub meets_partition : (m n : ℕ) (whole : Span) → 1 ≤ n → whole.end ≤ m → ArePartition n (λ i. meet whole (nth_span m n i)) (λ x. IsTrue (is_in_span whole x))
 meets_partition m n whole some end = record {
   once = λ x holds.
       let b = bounds whole x holds in
@@ -148,29 +148,29 @@ meets_partition m n whole some end = record {
       record {
         one = holder m n x;
         within = holder_within m n x some within;
-        holds = (in_meet whole (share m n (holder m n x)) x).1 (holds, holder_holds m n x some (omega arith));
-        only = λ i _ h. holder_is m n x i some ((in_meet whole (share m n i) x).0 h).1;
+        holds = (in_meet whole (nth_span m n (holder m n x)) x).1 (holds, holder_holds m n x some (omega arith));
+        only = λ i _ h. holder_is m n x i some ((in_meet whole (nth_span m n i) x).0 h).1;
       };
-  inside = λ i within x h. ((in_meet whole (share m n i) x).0 h).0;
+  inside = λ i within x h. ((in_meet whole (nth_span m n i) x).0 h).0;
 }
 
--- a share ends in the mesh
-pub share_end : (m n i : ℕ) → 1 ≤ n → i < n → (share m n i).end ≤ m
-share_end m n i some within =
+-- a nth_span ends in the mesh
+pub span_end : (m n i : ℕ) → 1 ≤ n → i < n → (nth_span m n i).end ≤ m
+span_end m n i some within =
     let most : (i + 1) * m ≤ n * m = mul-le-mul_right m (omega arith) in
     div-le_of_le-mul n {m = (i + 1) * m} {n = m} most
 
-pub share_ordered : (m n i : ℕ) → 1 ≤ n → (share m n i).first ≤ (share m n i).end
-share_ordered m n i some =
+pub span_ordered : (m n i : ℕ) → 1 ≤ n → (nth_span m n i).first ≤ (nth_span m n i).end
+span_ordered m n i some =
     let low : i * m / n * n ≤ i * m = div-mul-le_self (i * m) n in
     le-div (i * m / n) ((i + 1) * m) n (omega arith) (omega arith)
 
 abbrev span_of : ℕ → ℕ → Span
 span_of first end = record { first = first; end = end }
 
--- the one share of all
-pub share_of_one : (m : ℕ) → share m 1 0 ≡ record { first = 0; end = m }
-share_of_one m =
+-- the one nth_span of all
+pub span_of_one : (m : ℕ) → nth_span m 1 0 ≡ record { first = 0; end = m }
+span_of_one m =
     let low : 0 * m / 1 ≡ 0 = omega arith in
     let high : (0 + 1) * m / 1 ≡ m = omega arith in
     ap (λ first. span_of first ((0 + 1) * m / 1)) low ∙ ap (λ end. span_of 0 end) high

@@ -11,13 +11,13 @@ use std::marker::Model;
 
 /// The samples of one client's piece, row by row, with the cells that they are of.
 #[derive(Drop)]
-pub(crate) struct Part {
+pub(crate) struct KeptPiece {
     first: u32,
     count: u32,
     samples: Vec<u16>,
 }
 
-impl Model for Part {
+impl Model for KeptPiece {
     ghost use Rattle.mls_assembly.specs.Shares.{Share};
 
     ghost Value = { Share };
@@ -38,9 +38,9 @@ fn copy_row(piece: &PieceView<'_>, row: u32, samples: &mut Vec<u16>) -> Result<(
     Ok(())
 }
 
-impl Part {
+impl KeptPiece {
     /// What is kept of a piece.
-    pub(crate) fn of(alloc: Global, piece: &PieceView<'_>) -> Result<Part, NoMemory>
+    pub(crate) fn of(alloc: Global, piece: &PieceView<'_>) -> Result<KeptPiece, NoMemory>
         ensures { IfOk result (λ part. part ≡ share_of piece.now) }
     {
         piece.valid();
@@ -49,7 +49,7 @@ impl Part {
         for row in 0..piece.rows() {
             copy_row(piece, row, &mut samples)?;
         }
-        Ok(Part {
+        Ok(KeptPiece {
             first: piece.first(),
             count: piece.count(),
             samples,

@@ -1,3 +1,0 @@
-pub mod LastSave
-pub mod OneMore
-pub mod Fitting
