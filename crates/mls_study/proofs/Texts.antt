@@ -11,7 +11,7 @@ use Rattle.toml.specs.View.{items_view, members_view}
 use Rattle.toml.specs.declared.value.Value.{Value}
 use Rattle.mls_model.specs.Numbers.{same_bytes}
 use Rattle.mls_model.specs.Studies.{rises}
-use Rattle.mls_study.specs.Names.{member_keys}
+use Rattle.mls_study.specs.UnknownKeys.{member_keys}
 use Rattle.mls_study.specs.StudyFile.{item_count}
 
 -- whether two lists of bytes are the same, in the words of std

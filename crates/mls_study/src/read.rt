@@ -9,7 +9,7 @@ ghost use Rattle.mls_base.specs.Shapes.{padded};
 ghost use Rattle.mls_model.specs.Studies.{AreSizes, IsStudy, rises};
 ghost use Rattle.mls_study.specs.Choices.{chosen, field_count};
 ghost use Rattle.mls_study.specs.Faults.{Gives, IsMemory};
-ghost use Rattle.mls_study.specs.Names.{place_in, duplicate_from, unknown_key, unknown_in};
+ghost use Rattle.mls_study.specs.Names.{place_in, duplicate_from};
 ghost use Rattle.mls_study.specs.Parameters.{all_seen};
 ghost use Rattle.mls_study.specs.Ranges.{AreCounts, AreChoices, AreLaunch};
 ghost use Rattle.mls_study.specs.StudyFile.{document_of, counts_of, seed_in, samples_in, are_field_names, fields_in, are_statistics, statistics_in, all_statistics, thresholds_in, choices_of, launch_of, tables_in, parameters_from, refuse, sizes_with, whole, study_in, study_of};
@@ -19,12 +19,11 @@ ghost use Rattle.mls_study.specs.declared.fault.StudyFault.TheVariants.{Extra};
 
 use crate::fault::{Name, StudyFault};
 use crate::keys::{Choices, Counts, Launch, fields, samples, seed, statistics, thresholds};
-use crate::level::Level;
 use crate::parameter::Parameter;
-use crate::places::places;
+use crate::parameter_places::places;
 use crate::study::Study;
 use crate::tables::{parameters, tables};
-use crate::unknown::{first_unknown, unknown};
+use crate::unknown_keys::{TableKind, first_unknown, least_unknown};
 use crate::values::{member, needed_number, number_or};
 use indexmap::IndexMap;
 use mls_base::numbers::Numbers;
@@ -38,10 +37,7 @@ use toml::{Table, Value};
 fn document(alloc: Global, bytes: &[u8]) -> Result<Table, StudyFault>
     ensures { Gives table_view result (document_of bytes.now) }
 {
-    let text = match std::str::from_utf8(bytes) {
-        Ok(text) => text,
-        Err(_) => return Err(StudyFault::NotToml),
-    };
+    let text = std::str::from_utf8(bytes).map_err(|_| StudyFault::NotToml)?;
     match toml::table_from_str(alloc, text) {
         Ok(table) => Ok(table),
         Err(error) if error.is_memory() => Err(StudyFault::Memory),
@@ -171,12 +167,10 @@ fn parameter_tables(table: &Table) -> Result<&[Value], StudyFault>
     ensures some { IfOk result (λ items. 1 ≤ length items.now) }
     ensures few { IfOk result (λ items. length items.now ≤ 16) }
 {
-    match member(table, "parameters") {
-        Some(value) => tables(value),
-        None => Err(StudyFault::Missing {
-            key: Key::Parameters,
-        }),
-    }
+    let value = member(table, "parameters").ok_or(StudyFault::Missing {
+        key: Key::Parameters,
+    })?;
+    tables(value)
 }
 
 fn refuse_key(alloc: Global, key: Option<&str>) -> Result<(), StudyFault>
@@ -300,7 +294,7 @@ fn study_from(alloc: Global, table: &Table) -> Result<Study, StudyFault>
     let tables = parameter_tables(table)?;
     let parameters = parameters(alloc, tables)?;
     let places = places(alloc, &parameters)?;
-    refuse_key(alloc, unknown(Level::Study, table))?;
+    refuse_key(alloc, least_unknown(TableKind::Study, table))?;
     refuse_key(alloc, first_unknown(tables))?;
     study(counts, choices, launch, parameters, places)
 }
