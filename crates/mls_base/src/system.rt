@@ -1,6 +1,6 @@
-//! The real ends: standard output and the files of the system. What they hold they don't tell.
+//! Standard output and the files of the system. What they hold they don't tell, and they are never sound.
 
-ghost use Rattle.std.specs.Prelude.{◌≡◌, ◌≤◌, None, vec_len, length, IfOk};
+ghost use Rattle.std.specs.Prelude.{◌≡◌, ◌≤◌, None, false, vec_len, length, IfOk};
 
 use crate::faults::{Failed, LoadFault, StoreFault};
 use crate::outside::{Files, Sink};
@@ -29,6 +29,8 @@ impl<R: Print + Drop> Sink for StdSink<R> {
     ghost faults = { λ s. s.faults };
 
     ghost told = { λ s. None };
+
+    ghost sure = { λ s. 0 };
 
     fn write(&mut self, piece: &[u8]) -> Result<usize, Failed> {
         match write_some(&self.rt, piece) {
@@ -83,6 +85,8 @@ impl<R: rt::Files + Drop> Files for StdFiles<R> {
     ghost save_faults = { λ f. f.save_faults };
 
     ghost held = { λ f. None };
+
+    ghost sound = { λ f. false };
 
     fn load(&mut self, alloc: Global, name: &str, max: u64) -> Result<Vec<u8>, LoadFault> {
         match load_file(&self.rt, alloc, name, max) {
