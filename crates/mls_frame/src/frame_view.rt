@@ -2,12 +2,15 @@
 
 ghost use Rattle.std.specs.Prelude.{◌≡◌, ℕ, ◌+◌, ◌*◌, ◌<◌, ◌≤◌, ◌||◌, length, nat_lt};
 ghost use Rattle.std.specs.Int.{w16, w32};
-ghost use Rattle.mls_model.specs.Frames.{longest_body, number, is_no_length, hello as hello_frame, fixed_length, fixed_frame, fixed_sight, piece_sight, sized_sight, sight};
+ghost use Rattle.mls_model.specs.Frames.{longest_body, whole, is_no_length, fixed_length, fixed_frame, fixed_sight, piece_sight, sized_sight, sight};
 ghost use Rattle.mls_frame.specs.Views.{frame_of, sight_of, IsWithin};
 
 use crate::numbers::{number_16, number_32};
 use crate::piece_view::PieceView;
 use mls_model::lanes::FrameFault;
+
+/// The longest body of a frame, in bytes.
+const LONGEST_BODY: u32 = 67_108_864;
 
 /// A frame as it lies in the bytes that spell it.
 #[derive(Drop)]
@@ -60,7 +63,7 @@ pub enum Seen<'a> {
 fn is_no_length(size: u32) -> bool
     ensures { result ≡ is_no_length size }
 {
-    size == 0 || size > 67_108_864
+    size == 0 || size > LONGEST_BODY
 }
 
 fn is_no_kind(kind: u8) -> bool
@@ -83,6 +86,7 @@ fn fixed_length(kind: u8) -> u32
     }
 }
 
+/// The frame of a kind other than 1 with these fields.
 #[tactic(auto, unfolding(mls_model::specs::Frames::fixed_frame))]
 fn fixed_frame(kind: u8, fields: &[u8]) -> FrameView<'_>
     requires { fixed_length kind ≤ 1 + length fields.now }
@@ -99,7 +103,13 @@ fn fixed_frame(kind: u8, fields: &[u8]) -> FrameView<'_>
         },
         4 => FrameView::Save,
         5 => FrameView::Crash,
-        6 => hello(fields),
+        6 => FrameView::Hello {
+            version: number_16(fields, 0),
+            group: number_32(fields, 2),
+            life: number_32(fields, 6),
+            client: number_16(fields, 10),
+            rank: number_16(fields, 12),
+        },
         7 => FrameView::Welcome {
             lane: number_32(fields, 0),
         },
@@ -110,19 +120,18 @@ fn fixed_frame(kind: u8, fields: &[u8]) -> FrameView<'_>
     }
 }
 
-fn hello(fields: &[u8]) -> FrameView<'_>
-    requires { 14 ≤ length fields.now }
-    ensures { frame_of result ≡ hello_frame (number w16 0 fields.now) (number w32 2 fields.now) (number w32 6 fields.now) (number w16 10 fields.now) (number w16 12 fields.now) }
+/// A frame whose body has this length.
+fn whole(frame: FrameView<'_>, size: u32) -> Seen<'_>
+    requires { size ≤ longest_body }
+    ensures { sight_of result ≡ whole (frame_of frame.entry) (4 + size) }
 {
-    FrameView::Hello {
-        version: number_16(fields, 0),
-        group: number_32(fields, 2),
-        life: number_32(fields, 6),
-        client: number_16(fields, 10),
-        rank: number_16(fields, 12),
+    Seen::Whole {
+        frame,
+        used: 4 + size,
     }
 }
 
+/// What a kind other than 1 with these fields is.
 #[tactic(auto, unfolding(mls_model::specs::Frames::fixed_sight))]
 fn fixed_view(size: u32, kind: u8, fields: &[u8]) -> Seen<'_>
     requires { kind ≤ 8 }
@@ -134,12 +143,10 @@ fn fixed_view(size: u32, kind: u8, fields: &[u8]) -> Seen<'_>
     if 1 + fields.len() < size as usize {
         return Seen::More;
     }
-    Seen::Whole {
-        frame: fixed_frame(kind, fields),
-        used: 4 + size,
-    }
+    whole(fixed_frame(kind, fields), size)
 }
 
+/// What a piece with these fields is.
 #[tactic(auto, unfolding(mls_model::specs::Frames::piece_sight))]
 fn piece_view(size: u32, fields: &[u8]) -> Seen<'_>
     requires { size ≤ longest_body }
@@ -158,12 +165,10 @@ fn piece_view(size: u32, fields: &[u8]) -> Seen<'_>
     if 1 + fields.len() < size as usize {
         return Seen::More;
     }
-    Seen::Whole {
-        frame: FrameView::Piece(PieceView::of(fields)),
-        used: 4 + size,
-    }
+    whole(FrameView::Piece(PieceView::of(fields)), size)
 }
 
+/// What stands behind a length.
 #[tactic(auto, unfolding(mls_model::specs::Frames::sized_sight))]
 fn sized_view(size: u32, rest: &[u8]) -> Seen<'_>
     ensures { sight_of result ≡ sized_sight size rest.now }
