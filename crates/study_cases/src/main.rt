@@ -14,13 +14,33 @@ fn shown(study: &Study, statistic: Statistic) -> u32 {
 /// Prints the numbers of a study, those of its table first.
 fn print_study(rt: &HostRuntime, study: &Study) -> io::Result<()> {
     let shape = study.shape();
-    println!(rt; "cells {} steps {} groups {} ranks {} clients {} seed {}",
-        shape.cells(), shape.steps(), shape.groups(), shape.ranks(), shape.clients(), study.seed())?;
-    println!(rt; "signed {} fields {} named {} shows {}{}{}{}",
-        shape.signed(), shape.fields(), study.named(), shown(study, Statistic::Power), shown(study, Statistic::Extrema),
-        shown(study, Statistic::Exceed), shown(study, Statistic::Sobol))?;
-    println!(rt; "thresholds {} slots {} silence {} lives {} parameters {}",
-        shape.thresholds(), shape.slots(), shape.silence(), shape.lives(), shape.parameters())
+    println!(rt;
+        "cells {} steps {} groups {} ranks {} clients {} seed {}",
+        shape.cells(),
+        shape.steps(),
+        shape.groups(),
+        shape.ranks(),
+        shape.clients(),
+        study.seed()
+    )?;
+    println!(rt;
+        "signed {} fields {} named {} shows {}{}{}{}",
+        shape.signed(),
+        shape.fields(),
+        study.named(),
+        shown(study, Statistic::Power),
+        shown(study, Statistic::Extrema),
+        shown(study, Statistic::Exceed),
+        shown(study, Statistic::Sobol)
+    )?;
+    println!(rt;
+        "thresholds {} slots {} silence {} lives {} parameters {}",
+        shape.thresholds(),
+        shape.slots(),
+        shape.silence(),
+        shape.lives(),
+        shape.parameters()
+    )
 }
 
 /// Prints what a text is as a study.
