@@ -99,3 +99,10 @@ two_groups_frames = sent 0 1 (1 ∷ 3 ∷ 3 ∷ []) ∷ sent 1 1 (5 ∷ 1 ∷ 1 
 
 abbrev pub two_groups_lane : SpelledLane
 two_groups_lane = record { rank = 0; kind = Client; bytes = joined (map spelling two_groups_frames) }
+
+-- the five bytes of a save, and a client lane of it alone
+abbrev pub save_bytes : List ℕ
+save_bytes = 0 ∷ 0 ∷ 0 ∷ 1 ∷ 4 ∷ []
+
+abbrev pub one_save : LaneEnd → Lane
+one_save end = record (client_lane (save ∷ [])) { end = end }

@@ -13,7 +13,7 @@ ghost use Rattle.mls_model.specs.Outcomes.{outcomes};
 ghost use Rattle.mls_model.specs.ResultText.{result_text};
 ghost use Rattle.mls_model.specs.Schedules.{plain};
 ghost use Rattle.mls_examples.specs.Small.{small_study, sent, client_lane};
-ghost use Rattle.mls_examples.specs.Lanes.{two_groups_lane, two_groups_frames, two_groups_tape, signed_no_lane_tape, piece_0_bytes, no_lane_tape, tape_with, cut_bytes, ended, no_event, cut_text, bad_kind_text, foreign_lanes, foreign_text, empty_piece, empty_piece_bytes, huge_piece_bytes, empty_piece_text, group_frames, wrong_kinds, faulty_lanes};
+ghost use Rattle.mls_examples.specs.Lanes.{save_bytes, one_save, two_groups_lane, two_groups_frames, two_groups_tape, signed_no_lane_tape, piece_0_bytes, no_lane_tape, tape_with, cut_bytes, ended, no_event, cut_text, bad_kind_text, foreign_lanes, foreign_text, empty_piece, empty_piece_bytes, huge_piece_bytes, empty_piece_text, group_frames, wrong_kinds, faulty_lanes};
 ghost use Rattle.mls_examples.specs.Ranks.{survivors};
 
 /// A piece of three samples has 35 bytes. Each proper prefix of them is too little to tell.
@@ -71,6 +71,9 @@ pub fn hostile_lanes()
     ensures too_long { lane_of 0 Client (4 ∷ 0 ∷ 0 ∷ 1 ∷ []) ≡ no_event (BadLength 0) }
     ensures unknown { lane_of 0 Client (0 ∷ 0 ∷ 0 ∷ 1 ∷ 10 ∷ []) ≡ no_event (BadKind 0) }
     ensures even { lane_of 0 Client (0 ∷ 0 ∷ 0 ∷ 0x1a ∷ 1 ∷ []) ≡ no_event (BadLength 0) }
+    ensures bad_size { lane_of 0 Client (0 ∷ 0 ∷ 0 ∷ 2 ∷ 4 ∷ []) ≡ no_event (BadLength 0) }
+    ensures cut_after_one { lane_of 0 Client (save_bytes ++ 0 ∷ 0 ∷ []) ≡ one_save (Cut 5) }
+    ensures bad_after_one { lane_of 0 Client (save_bytes ++ 0 ∷ 0 ∷ 0 ∷ 1 ∷ 9 ∷ []) ≡ one_save (BadKind 5) }
     ensures huge { lane_of 0 Client huge_piece_bytes ≡ no_event (BadLength 0) }
     ensures empty { lane_of 0 Client empty_piece_bytes ≡ client_lane (piece empty_piece ∷ []) }
     ensures empty_text { result_text small_study (client_lane (piece empty_piece ∷ []) ∷ []) (plain 1 (client_lane (piece empty_piece ∷ []) ∷ [])) ≡ empty_piece_text }

@@ -10,6 +10,7 @@ pub mod designs;
 pub mod fields;
 pub mod lanes;
 pub mod samples;
+pub mod schedules;
 pub mod statistics;
 pub mod studies;
 pub mod sums;
