@@ -105,7 +105,9 @@ pub fn read_events(alloc: Global, bytes: &[u8]) -> Result<Vec<Event>, EventFault
     requires { length bytes.now ≤ 16777216 }
     ensures read { IfOk result (λ events. bytes.now ≡ events_text events.items) }
     ensures refused { IfErr result (λ fault. IsRefused fault bytes.now) }
-    ensures exact { MatchResult result (λ events. events_of bytes.now ≡ Ok events.items) (λ fault. IsExact fault (events_of bytes.now)) }
+    ensures exact { MatchResult result
+        (λ events. events_of bytes.now ≡ Ok events.items)
+        (λ fault. IsExact fault (events_of bytes.now)) }
 {
     let mut events = Vec::new(alloc);
     let mut rest = bytes;

@@ -68,7 +68,8 @@ impl GroupState {
         ensures { result ≡ stays_on silence lives time self }
     {
         match self {
-            GroupState::Running { life, last } => time.saturating_sub(last) <= silence || life < lives,
+            GroupState::Running { life, last } => time.saturating_sub(last) <= silence
+                || life < lives,
             _ => false,
         }
     }
