@@ -1,3 +1,8 @@
 pub mod Shapes
+pub mod Ranges
 pub mod Told
+pub mod Texts
+pub mod Memory
+pub mod Calls
+pub mod Clocks
 pub mod Partitions

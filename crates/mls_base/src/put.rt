@@ -1,8 +1,8 @@
 //! Writing whole texts to a sink.
 
-ghost use Rattle.std.specs.Prelude.{◌≡◌, map, OnOk, OnErr};
-ghost use Rattle.mls_model.specs.Numbers.{joined};
+ghost use Rattle.std.specs.Prelude.{◌≡◌, ◌+◌, ◌<◌, ◌≤◌, length, OnOk, OnErr};
 ghost use Rattle.mls_base.specs.Told.{appended, Rose, WroteFront};
+ghost use Rattle.mls_base.specs.Texts.{text};
 
 use crate::faults::Failed;
 use crate::outside::Sink;
@@ -11,6 +11,8 @@ use crate::outside::Sink;
 pub fn put_all<O: Sink>(out: &mut O, bytes: &[u8]) -> Result<(), Failed>
     ensures written { OnOk result (O.told out.new ≡ appended (O.told out.old) bytes.now) }
     ensures faultless { OnOk result (O.faults out.new ≡ O.faults out.old) }
+    ensures sure { OnOk result (O.sure out.old ≤ O.sure out.new + length bytes.now) }
+    ensures unsure { OnErr result (O.sure out.old < length bytes.now) }
     ensures front { OnErr result (WroteFront (O.told out.old) (O.told out.new) bytes.now) }
     ensures rose { OnErr result (Rose (O.faults out.old) (O.faults out.new)) }
 {
@@ -24,9 +26,11 @@ pub fn put_all<O: Sink>(out: &mut O, bytes: &[u8]) -> Result<(), Failed>
 
 /// Writes the pieces in a row. After `Failed` a front of them went out.
 pub fn put_pieces<O: Sink>(out: &mut O, pieces: &[&[u8]]) -> Result<(), Failed>
-    ensures written { OnOk result (O.told out.new ≡ appended (O.told out.old) (joined (map (λ piece. piece.now) pieces.now))) }
+    ensures written { OnOk result (O.told out.new ≡ appended (O.told out.old) (text pieces.now)) }
     ensures faultless { OnOk result (O.faults out.new ≡ O.faults out.old) }
-    ensures front { OnErr result (WroteFront (O.told out.old) (O.told out.new) (joined (map (λ piece. piece.now) pieces.now))) }
+    ensures sure { OnOk result (O.sure out.old ≤ O.sure out.new + length (text pieces.now)) }
+    ensures unsure { OnErr result (O.sure out.old < length (text pieces.now)) }
+    ensures front { OnErr result (WroteFront (O.told out.old) (O.told out.new) (text pieces.now)) }
     ensures rose { OnErr result (Rose (O.faults out.old) (O.faults out.new)) }
 {
     for piece in pieces {
