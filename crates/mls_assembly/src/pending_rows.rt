@@ -2,9 +2,9 @@
 
 ghost use Rattle.std.specs.Prelude.{◌≡◌, ℕ, ◌<◌, Some};
 ghost use Rattle.mls_model.specs.Blocks.{block, client_of};
-ghost use Rattle.mls_assembly.specs.Open.{IsOpen};
+ghost use Rattle.mls_assembly.specs.KeyShares.{AreShares};
 
-use crate::opened::Open;
+use crate::key_pieces::KeyPieces;
 use mls_base::Span;
 use mls_base::rows::Rows;
 use mls_base::shape::Shape;
@@ -15,10 +15,10 @@ pub struct PendingRows<'a> {
     pub(crate) shape: Shape,
     pub(crate) rank: u32,
     pub(crate) span: Span,
-    pub(crate) open: &'a Open,
+    pub(crate) pieces: &'a KeyPieces,
     ghost rank_in: { rank < shape.ranks },
     ghost span_is: { span ≡ block shape rank },
-    ghost kept: { IsOpen shape rank open.now },
+    ghost kept: { AreShares shape rank pieces.now },
 }
 
 /// The client whose part holds a cell.
@@ -55,8 +55,8 @@ impl<'a> Rows for PendingRows<'a> {
     fn at(&self, row: u32, cell: u32) -> u16 {
         self.shape.valid();
         let cell = self.span.first + cell;
-        match self.open.part(sender(&self.shape, cell)) {
-            Some(part) => part.at(row, cell),
+        match self.pieces.piece(sender(&self.shape, cell)) {
+            Some(piece) => piece.at(row, cell),
             None => 0,
         }
     }

@@ -17,7 +17,7 @@ returns-clause-offers c = λ pieces all h was.
     (λ client.
     ap (λ k. share_at c.begin.new.self k client) (sym c.key_of-key.ensures)
     ∙ (begun.shares client
-    ∙ (ap (λ (n : ℕ). cond (client == n) (Some c.in_ok-part.part) None) c.client.ensures
-    ∙ ap (λ (x : Share). cond (client == c.args.piece.now.client) (Some x) None) c.in_ok-part.ensures)))
+    ∙ (ap (λ (n : ℕ). cond (client == n) (Some c.in_ok-kept.kept) None) c.client.ensures
+    ∙ ap (λ (x : Share). cond (client == c.args.piece.now.client) (Some x) None) c.in_ok-kept.ensures)))
     (λ key other. begun.others key (λ same. other (same ∙ c.key_of-key.ensures)))
     (answer_at c.args.self.now.sizes c.begin.new.self.sizes c.args.self.now.rank c.begin.new.self.rank c.begin.new.self _ _ c.kept_or_complete.result begun.sizes begun.rank c.key_of-key.ensures c.kept_or_complete.ensures)

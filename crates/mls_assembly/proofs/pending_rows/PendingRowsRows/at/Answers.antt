@@ -16,9 +16,9 @@ sender-requires c =
 pub at-requires-clause-within : goal.at-requires-clause-within
 at-requires-clause-within c =
     let r = c.args.self.now in
-    (sample_in r.shape r.rank c.args.row c.args.cell c.sender.result r.span r.open.now c.in-Some.part.now c.valid.ensures r.rank_in r.span_is c.requires.cell_in c.requires.row_in r.kept c.sender.ensures.found c.in-Some.ensures).within
+    (sample_in r.shape r.rank c.args.row c.args.cell c.sender.result r.span r.pieces.now c.in-Some.piece.now c.valid.ensures r.rank_in r.span_is c.requires.cell_in c.requires.row_in r.kept c.sender.ensures.found c.in-Some.ensures).within
 
 pub at-requires-clause-from : goal.at-requires-clause-from
 at-requires-clause-from c =
     let r = c.args.self.now in
-    (sample_in r.shape r.rank c.args.row c.args.cell c.sender.result r.span r.open.now c.in-Some.part.now c.valid.ensures r.rank_in r.span_is c.requires.cell_in c.requires.row_in r.kept c.sender.ensures.found c.in-Some.ensures).from
+    (sample_in r.shape r.rank c.args.row c.args.cell c.sender.result r.span r.pieces.now c.in-Some.piece.now c.valid.ensures r.rank_in r.span_is c.requires.cell_in c.requires.row_in r.kept c.sender.ensures.found c.in-Some.ensures).from
