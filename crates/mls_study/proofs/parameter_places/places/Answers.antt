@@ -8,7 +8,7 @@ use Rattle.mls_study.specs.Parameters.{seen, all_seen}
 use Rattle.mls_study.specs.StudyFile.{refuse}
 use Rattle.mls_study.specs.declared.fault.StudyFault.TheVariants.{Duplicate}
 use Rattle.mls_study.proofs.Placing.{is_some_position, placed_more, seen_take, seen_len, duplicate_here, duplicate_later}
-use Rattle.mls_study.proofs.places.places.Goals as goal
+use Rattle.mls_study.proofs.parameter_places.places.Goals as goal
 
 pub returns-then-contains_key-clause-exact : goal.returns-then-contains_key-clause-exact
 returns-then-contains_key-clause-exact c =
