@@ -91,6 +91,18 @@ texts_all f i xs text old new before now past out =
     front_all text old new before now
     (let P : List ℕ → Type 0 = λ rest. IsFrontOut rest text old new before now in subst P (ap (flat_map f) (drop_all i xs past)) out)
 
+-- a line was written that is this text
+pub line_out : (line text : List ℕ) (old new : Option (List ℕ)) → line ≡ text → new ≡ appended old line → new ≡ appended old text
+line_out line text old new same is_new = is_new ∙ ap (appended old) same
+
+pub line_failed : (line text : List ℕ) (old new : Option (List ℕ)) → line ≡ text → WroteFront old new line → WroteFront old new text
+line_failed line text old new same failed = subst (WroteFront old new) same failed
+
+pub line_writes : {A : Type 0} (r : Result A Failed) (line text : List ℕ) (old new : Option (List ℕ)) (before now : ℕ) → line ≡ text → Writes r line old new before now → Writes r text old new before now
+line_writes r line text old new before now same w =
+    let P : List ℕ → Type 0 = λ t. Writes r t old new before now in
+    subst P same w
+
 -- what carries a text of several parts through its writes
 pub ruleset chain = (first_failed, later_failed, both_out, writes_after, rose_since, failed_writes)
 
