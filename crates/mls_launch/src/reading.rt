@@ -34,13 +34,7 @@ impl<T: Drop> From<AllocFailed<T>> for EventFault {
 fn after<'a>(bytes: &'a [u8], front: &[u8]) -> Option<&'a [u8]>
     ensures { seen_rest result ≡ after_in front.now bytes.now }
 {
-    if front.len() <= bytes.len() {
-        let (begin, rest) = bytes.split_at(front.len());
-        if begin == front {
-            return Some(rest);
-        }
-    }
-    None
+    bytes.strip_prefix(front)
 }
 
 #[tactic(auto, unfolding(crate::specs::EventReading::tick_in))]
