@@ -15,7 +15,7 @@ pub use line::Line;
 use mls_base::faults::Failed;
 use mls_base::outside::Sink;
 use mls_base::put::put_all;
-pub use reading::{number_before, number_in};
+pub use reading::number_before;
 
 /// Writes the bytes.
 pub fn put_bytes<O: Sink>(out: &mut O, bytes: &[u8]) -> Result<(), Failed>

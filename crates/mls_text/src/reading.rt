@@ -23,7 +23,7 @@ fn digit_count(bytes: &[u8]) -> usize
 
 /// The number below 2^32 whose canonical decimal the digits at the front are, and the bytes behind them.
 #[tactic(auto, unfolding(crate::specs::Fronts::number_in))]
-pub fn number_in(bytes: &[u8]) -> Option<(u32, &[u8])>
+fn number_in(bytes: &[u8]) -> Option<(u32, &[u8])>
     ensures { seen result ≡ number_in bytes.now }
 {
     let (digits, rest) = bytes.split_at(digit_count(bytes));
