@@ -68,7 +68,8 @@ impl GroupState {
         ensures { result ≡ stays_on silence lives time self }
     {
         match self {
-            GroupState::Running { life, last } => time.saturating_sub(last) <= silence || life < lives,
+            GroupState::Running { life, last } => time.saturating_sub(last) <= silence
+                || life < lives,
             _ => false,
         }
     }
@@ -76,36 +77,24 @@ impl GroupState {
     pub fn is_waiting(self) -> bool
         ensures { result ≡ is_waiting self }
     {
-        match self {
-            GroupState::Waiting => true,
-            _ => false,
-        }
+        matches!(self, GroupState::Waiting)
     }
 
     pub fn is_running(self) -> bool
         ensures { result ≡ is_running self }
     {
-        match self {
-            GroupState::Running { .. } => true,
-            _ => false,
-        }
+        matches!(self, GroupState::Running { .. })
     }
 
     pub fn is_finished(self) -> bool
         ensures { result ≡ is_done self }
     {
-        match self {
-            GroupState::Finished => true,
-            _ => false,
-        }
+        matches!(self, GroupState::Finished)
     }
 
     pub fn is_given_up(self) -> bool
         ensures { result ≡ is_left self }
     {
-        match self {
-            GroupState::GivenUp => true,
-            _ => false,
-        }
+        matches!(self, GroupState::GivenUp)
     }
 }
