@@ -11,8 +11,8 @@ ghost use Rattle.mls_model.specs.Completion.{Key, key_of, is_completed};
 ghost use Rattle.mls_assembly.specs.Shares.{share_of, IsShare, has_all};
 ghost use Rattle.mls_assembly.specs.KeyShares.{share_in};
 ghost use Rattle.mls_assembly.specs.Pendings.{Pends, PendsBut};
-ghost use Rattle.mls_assembly.specs.Held.{Held, key_at, kept_of, life_of, share_at, ArePending, AreRising, KeepsOthers, AreWhole};
-ghost use Rattle.mls_assembly.specs.Offered.{IsPartial, Covers, IsOffered, Stores, StoresKept, Unchanged};
+ghost use Rattle.mls_assembly.specs.Held.{Held, key_at, kept_of, life_of, share_at, ArePending, AreRising, KeepsOthers, AreWhole, DropsCompleted};
+ghost use Rattle.mls_assembly.specs.Offered.{IsPartial, Covers, IsOffered, Stores, StoresKept, StoresComplete, Unchanged};
 ghost use Rattle.mls_assembly.specs.Lent.{sizes_of, rank_of, shares_of};
 
 use crate::assembled::Assembled;
@@ -123,7 +123,8 @@ impl Pending {
         ensures sizes { self.new.sizes ≡ self.old.sizes }
         ensures rank { self.new.rank ≡ self.old.rank }
         ensures life { life_of self.new (key_at key) ≡ life_of self.old (key_at key) }
-        ensures shares { (c : ℕ) → share_at self.new (key_at key) c ≡ cond (c == client) (Some kept) (share_at self.old (key_at key) c) }
+        ensures shares { (c : ℕ)
+            → share_at self.new (key_at key) c ≡ cond (c == client) (Some kept) (share_at self.old (key_at key) c) }
         ensures others { KeepsOthers self.old self.new (key_at key) }
     {
         if let Some(pieces) = self.keys.get_mut(&key) {
@@ -146,7 +147,8 @@ impl Pending {
         ensures sizes { self.new.sizes ≡ self.old.sizes }
         ensures rank { self.new.rank ≡ self.old.rank }
         ensures life { IfOk result (λ _. life_of self.new (key_at key) ≡ Some life) }
-        ensures shares { IfOk result (λ _. (c : ℕ) → share_at self.new (key_at key) c ≡ cond (c == client) (Some kept) None) }
+        ensures shares { IfOk result (λ _. (c : ℕ)
+            → share_at self.new (key_at key) c ≡ cond (c == client) (Some kept) None) }
         ensures others { KeepsOthers self.old self.new (key_at key) }
         ensures err { OnErr result (self.new ≡ self.old) }
     {
@@ -198,7 +200,8 @@ impl Pending {
         ensures sizes { self.new.sizes ≡ self.old.sizes }
         ensures rank { self.new.rank ≡ self.old.rank }
         ensures ready { OnOk result (IsSome (kept_of self.new (key_of (piece_of piece.now)))) }
-        ensures stored { IfOk result (λ answer. StoresKept self.old self.new (piece_of piece.now) answer) }
+        ensures kept { IfOk result (λ answer. StoresKept self.old self.new (piece_of piece.now) answer) }
+        ensures complete { IfOk result (λ answer. StoresComplete self.old self.new (piece_of piece.now) answer) }
         ensures unchanged { IfOk result (λ answer. Unchanged self.old self.new answer) }
         ensures others { KeepsOthers self.old self.new (key_of (piece_of piece.now)) }
         ensures err { OnErr result (self.new ≡ self.old) }
@@ -222,8 +225,10 @@ impl Pending {
         ensures rank { self.new.rank ≡ self.old.rank }
         ensures alone { Covers self.old (piece_of piece.now) → (result ≡ Ok Assembled.Complete) × (self.new ≡ self.old) }
         ensures covered { Covers self.old (piece_of piece.now) → AreWhole self.old }
-        ensures ready { IfOk result (λ answer. answer ≡ Assembled.Complete → IsPartial self.old (piece_of piece.now) → IsSome (kept_of self.new (key_of (piece_of piece.now)))) }
-        ensures stored { IfOk result (λ answer. StoresKept self.old self.new (piece_of piece.now) answer) }
+        ensures ready { IfOk result (λ answer. answer ≡ Assembled.Complete → IsPartial self.old (piece_of piece.now)
+            → IsSome (kept_of self.new (key_of (piece_of piece.now)))) }
+        ensures kept { IfOk result (λ answer. StoresKept self.old self.new (piece_of piece.now) answer) }
+        ensures complete { IfOk result (λ answer. StoresComplete self.old self.new (piece_of piece.now) answer) }
         ensures unchanged { IfOk result (λ answer. Unchanged self.old self.new answer) }
         ensures others { KeepsOthers self.old self.new (key_of (piece_of piece.now)) }
         ensures memory { OnErr result (IsPartial self.old (piece_of piece.now)) }
@@ -267,7 +272,7 @@ impl Pending {
         ensures sizes { self.new.sizes ≡ self.old.sizes }
         ensures rank { self.new.rank ≡ self.old.rank }
         ensures own { kept_of self.new (key_at key) ≡ None }
-        ensures pends { (pieces : List Piece) → is_completed self.old.sizes self.old.rank (key_at key) pieces ≡ true → PendsBut (key_at key) self.old.sizes self.old.rank (life_of self.old) (share_at self.old) pieces → Pends self.old.sizes self.old.rank (life_of self.new) (share_at self.new) pieces }
+        ensures pends { DropsCompleted self.old self.new (key_at key) }
         ensures others { KeepsOthers self.old self.new (key_at key) }
     {
         self.keys.remove(&key);

@@ -330,7 +330,8 @@ impl<F: RowFold> RankCore<F> {
 
     /// After a crash the core of the last save stands for the whole history, and where there was no save the core before any event does.
     pub fn after_crash(&self)
-        ensures { (history : List LaneEvent) (e : LaneEvent) → is_crash e ≡ true → StandsFor self.now (before_last_save history) → StandsFor self.now (history ++ e ∷ []) }
+        ensures { (history : List LaneEvent) (e : LaneEvent) → is_crash e ≡ true
+            → StandsFor self.now (before_last_save history) → StandsFor self.now (history ++ e ∷ []) }
     {
         self.shape.valid();
     }

@@ -29,7 +29,7 @@ invariant_of-self-in-Kept-clause-waiting g c =
     let core = c.args.self.now in
     let offer = c.in_ok-answer.ensures in
     waiting_kept core.marks core.pending c.offer.new.self (piece_of c.args.piece.now) offer.sizes offer.rank offer.others c.requires.absent
-    ((offer.stored c.requires.part (inl c.in-Kept.is)).whole ∙ ap is_complete c.in-Kept.is) core.waiting
+    ((offer.kept c.in-Kept.is).whole ∙ ap is_complete c.in-Kept.is) core.waiting
 
 pub invariant_of-self-in-Stale-clause-waiting : goal.invariant_of-self-in-Stale-clause-waiting
 invariant_of-self-in-Stale-clause-waiting g c = subst (AreWaiting c.args.self.now.marks) (sym (c.in_ok-answer.ensures.unchanged (inl c.in-Stale.is))) c.args.self.now.waiting
