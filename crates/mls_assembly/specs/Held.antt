@@ -8,11 +8,11 @@ use Rattle.std.specs.BTreeMap.{is_at}
 use Rattle.std.specs.Option.{option_map}
 use Rattle.mls_model.specs.Studies.{Sizes, planes}
 use Rattle.mls_model.specs.Frames.{Piece}
-use Rattle.mls_model.specs.Completion.{Key}
+use Rattle.mls_model.specs.Completion.{Key, is_completed}
 use Rattle.mls_assembly.specs.declared.group_step.GroupStep.{GroupStep}
 use Rattle.mls_assembly.specs.Shares.{Share, has_all}
 use Rattle.mls_assembly.specs.KeyShares.{KeyShares, share_in, AreShares}
-use Rattle.mls_assembly.specs.Pendings.{Pends}
+use Rattle.mls_assembly.specs.Pendings.{Pends, PendsBut}
 
 -- the study's numbers, the rank, and the keys in the order of plane and group
 pub record Held : Type 0 where
@@ -68,3 +68,9 @@ AreWhole held = (key : Key) → IsSome (kept_of held key) → has_all held.sizes
 -- it is what is pending after these fitting pieces
 abbrev pub PendsFor : Held → List Piece → Type 0
 PendsFor held pieces = Pends held.sizes held.rank (life_of held) (share_at held) pieces
+
+-- Where a key is completed and the others are pending as they should, all are.
+abbrev pub DropsCompleted : Held → Held → Key → Type 0
+DropsCompleted old new own =
+    (pieces : List Piece) → is_completed old.sizes old.rank own pieces ≡ true
+    → PendsBut own old.sizes old.rank (life_of old) (share_at old) pieces → Pends old.sizes old.rank (life_of new) (share_at new) pieces

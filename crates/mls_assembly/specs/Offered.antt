@@ -40,9 +40,12 @@ pub record Stores (old new : Held) (p : Piece) (answer : Assembled) : Type 0 whe
   pub shares : (client : ℕ) → share_at new (key_of p) client ≡ cond (client == p.client) (Some (share_of p)) (shares_of_life old (key_of p) p.life client)
   pub whole : has_all old.sizes old.rank (share_at new (key_of p)) ≡ is_complete answer
 
--- what becomes of a piece with fewer cells than the block, where it is kept or complete
+-- a piece that is kept was stored, and so was one that is complete with those of other clients
 abbrev pub StoresKept : Held → Held → Piece → Assembled → Type 0
-StoresKept old new p answer = IsPartial old p → ((answer ≡ Kept) ⊎ (answer ≡ Complete)) → Stores old new p answer
+StoresKept old new p answer = answer ≡ Kept → Stores old new p answer
+
+abbrev pub StoresComplete : Held → Held → Piece → Assembled → Type 0
+StoresComplete old new p answer = answer ≡ Complete → IsPartial old p → Stores old new p answer
 
 -- where a piece is stale or repeated, all is as before
 abbrev pub Unchanged : Held → Held → Assembled → Type 0
