@@ -6,6 +6,7 @@ ghost use Rattle.mls_model.specs.Studies.{planes};
 ghost use Rattle.mls_model.specs.Blocks.{block, width};
 ghost use Rattle.mls_model.specs.Frames.{Piece};
 ghost use Rattle.mls_model.specs.Fitting.{piece_reason};
+ghost use Rattle.mls_frame.specs.Views.{piece_of};
 ghost use Rattle.mls_model.specs.Completion.{Key, key_of, is_completed};
 ghost use Rattle.mls_assembly.specs.Shares.{share_of, IsShare, has_all};
 ghost use Rattle.mls_assembly.specs.KeyShares.{share_in};
@@ -50,7 +51,7 @@ impl Model for Pending {
 
 /// The key of a piece.
 fn key_of(piece: &PieceView<'_>) -> GroupStep
-    ensures { key_at result ≡ key_of piece.now }
+    ensures { key_at result ≡ key_of (piece_of piece.now) }
 {
     GroupStep {
         group: piece.group(),
@@ -168,16 +169,16 @@ impl Pending {
 
     /// Takes a piece of a life that is greater than the one that is pending of its key.
     fn start(&mut self, piece: &PieceView<'_>) -> Result<Assembled, NoMemory>
-        requires fits { piece_reason self.old.sizes self.old.rank piece.now ≡ None }
-        requires part { (piece.now.count == width (block self.old.sizes self.old.rank)) ≡ false }
-        requires newer { IfSome (life_of self.old (key_of piece.now)) (λ life. life < piece.now.life) }
-        ensures offers { IfOk result (λ answer. IsOffered self.old self.new piece.now answer) }
+        requires fits { piece_reason self.old.sizes self.old.rank (piece_of piece.now) ≡ None }
+        requires part { ((piece_of piece.now).count == width (block self.old.sizes self.old.rank)) ≡ false }
+        requires newer { IfSome (life_of self.old (key_of (piece_of piece.now))) (λ life. life < (piece_of piece.now).life) }
+        ensures offers { IfOk result (λ answer. IsOffered self.old self.new (piece_of piece.now) answer) }
         ensures sizes { self.new.sizes ≡ self.old.sizes }
         ensures rank { self.new.rank ≡ self.old.rank }
-        ensures ready { OnOk result (IsSome (kept_of self.new (key_of piece.now))) }
+        ensures ready { OnOk result (IsSome (kept_of self.new (key_of (piece_of piece.now)))) }
         ensures kept { IfOk result (λ answer. (answer ≡ Assembled.Kept) ⊎ (answer ≡ Assembled.Complete)) }
-        ensures stored { IfOk result (λ answer. Stores self.old self.new piece.now answer) }
-        ensures others { KeepsOthers self.old self.new (key_of piece.now) }
+        ensures stored { IfOk result (λ answer. Stores self.old self.new (piece_of piece.now) answer) }
+        ensures others { KeepsOthers self.old self.new (key_of (piece_of piece.now)) }
         ensures err { OnErr result (self.new ≡ self.old) }
     {
         self.shape.valid();
@@ -190,16 +191,16 @@ impl Pending {
 
     /// Takes a piece of the life that is pending of its key.
     fn join(&mut self, piece: &PieceView<'_>) -> Result<Assembled, NoMemory>
-        requires fits { piece_reason self.old.sizes self.old.rank piece.now ≡ None }
-        requires part { (piece.now.count == width (block self.old.sizes self.old.rank)) ≡ false }
-        requires same { life_of self.old (key_of piece.now) ≡ Some piece.now.life }
-        ensures offers { IfOk result (λ answer. IsOffered self.old self.new piece.now answer) }
+        requires fits { piece_reason self.old.sizes self.old.rank (piece_of piece.now) ≡ None }
+        requires part { ((piece_of piece.now).count == width (block self.old.sizes self.old.rank)) ≡ false }
+        requires same { life_of self.old (key_of (piece_of piece.now)) ≡ Some (piece_of piece.now).life }
+        ensures offers { IfOk result (λ answer. IsOffered self.old self.new (piece_of piece.now) answer) }
         ensures sizes { self.new.sizes ≡ self.old.sizes }
         ensures rank { self.new.rank ≡ self.old.rank }
-        ensures ready { OnOk result (IsSome (kept_of self.new (key_of piece.now))) }
-        ensures stored { IfOk result (λ answer. StoresKept self.old self.new piece.now answer) }
+        ensures ready { OnOk result (IsSome (kept_of self.new (key_of (piece_of piece.now)))) }
+        ensures stored { IfOk result (λ answer. StoresKept self.old self.new (piece_of piece.now) answer) }
         ensures unchanged { IfOk result (λ answer. Unchanged self.old self.new answer) }
-        ensures others { KeepsOthers self.old self.new (key_of piece.now) }
+        ensures others { KeepsOthers self.old self.new (key_of (piece_of piece.now)) }
         ensures err { OnErr result (self.new ≡ self.old) }
     {
         self.shape.valid();
@@ -215,17 +216,17 @@ impl Pending {
 
     /// Takes a piece that fits the rank and whose key is not completed, and says what becomes of it. It is copied only where it is kept, or completes its key with pieces of other clients. A piece that covers the rank's block alone is complete without memory. After want of memory what is pending is as before.
     pub fn offer(&mut self, piece: &PieceView<'_>) -> Result<Assembled, NoMemory>
-        requires { piece_reason self.old.sizes self.old.rank piece.now ≡ None }
-        ensures offers { IfOk result (λ answer. IsOffered self.old self.new piece.now answer) }
+        requires { piece_reason self.old.sizes self.old.rank (piece_of piece.now) ≡ None }
+        ensures offers { IfOk result (λ answer. IsOffered self.old self.new (piece_of piece.now) answer) }
         ensures sizes { self.new.sizes ≡ self.old.sizes }
         ensures rank { self.new.rank ≡ self.old.rank }
-        ensures alone { Covers self.old piece.now → (result ≡ Ok Assembled.Complete) × (self.new ≡ self.old) }
-        ensures covered { Covers self.old piece.now → AreWhole self.old }
-        ensures ready { IfOk result (λ answer. answer ≡ Assembled.Complete → IsPartial self.old piece.now → IsSome (kept_of self.new (key_of piece.now))) }
-        ensures stored { IfOk result (λ answer. StoresKept self.old self.new piece.now answer) }
+        ensures alone { Covers self.old (piece_of piece.now) → (result ≡ Ok Assembled.Complete) × (self.new ≡ self.old) }
+        ensures covered { Covers self.old (piece_of piece.now) → AreWhole self.old }
+        ensures ready { IfOk result (λ answer. answer ≡ Assembled.Complete → IsPartial self.old (piece_of piece.now) → IsSome (kept_of self.new (key_of (piece_of piece.now)))) }
+        ensures stored { IfOk result (λ answer. StoresKept self.old self.new (piece_of piece.now) answer) }
         ensures unchanged { IfOk result (λ answer. Unchanged self.old self.new answer) }
-        ensures others { KeepsOthers self.old self.new (key_of piece.now) }
-        ensures memory { OnErr result (IsPartial self.old piece.now) }
+        ensures others { KeepsOthers self.old self.new (key_of (piece_of piece.now)) }
+        ensures memory { OnErr result (IsPartial self.old (piece_of piece.now)) }
         ensures err { OnErr result (self.new ≡ self.old) }
     {
         let block = self.shape.block(self.rank);

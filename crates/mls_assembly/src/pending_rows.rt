@@ -1,7 +1,7 @@
 //! The block of a key whose pieces are all there.
 
-ghost use Rattle.std.specs.Prelude.{◌≡◌, ℕ, ◌<◌, Some};
-ghost use Rattle.mls_model.specs.Blocks.{block, client_of};
+ghost use Rattle.std.specs.Prelude.{◌≡◌, ◌<◌};
+ghost use Rattle.mls_model.specs.Blocks.{block};
 ghost use Rattle.mls_assembly.specs.KeyShares.{AreShares};
 
 use crate::key_pieces::KeyPieces;
@@ -19,17 +19,6 @@ pub struct PendingRows<'a> {
     ghost rank_in: { rank < shape.ranks },
     ghost span_is: { span ≡ block shape rank },
     ghost kept: { AreShares shape rank pieces.now },
-}
-
-/// The client whose part holds a cell.
-#[inline]
-fn sender(shape: &Shape, cell: u32) -> u32
-    requires { cell < shape.now.cells }
-    ensures within { result < shape.now.clients }
-    ensures found { client_of shape.now cell ≡ Some result }
-{
-    let scaled = (cell as u64 + 1) * shape.clients() as u64 - 1;
-    (scaled / shape.cells() as u64) as u32
 }
 
 impl<'a> Rows for PendingRows<'a> {
@@ -55,7 +44,7 @@ impl<'a> Rows for PendingRows<'a> {
     fn at(&self, row: u32, cell: u32) -> u16 {
         self.shape.valid();
         let cell = self.span.first + cell;
-        match self.pieces.piece(sender(&self.shape, cell)) {
+        match self.pieces.piece(self.shape.client_of(cell)) {
             Some(piece) => piece.at(row, cell),
             None => 0,
         }

@@ -2,6 +2,7 @@
 
 ghost use Rattle.std.specs.Prelude.{◌≡◌, IsTrue, None};
 ghost use Rattle.mls_model.specs.Fitting.{piece_reason};
+ghost use Rattle.mls_frame.specs.Views.{piece_of};
 
 use crate::{Assembled, GroupStep, Pending};
 use mls_base::numbers::Numbers;
@@ -35,7 +36,7 @@ fn piece(life: u8, client: u8, samples: [u8; 3]) -> [u8; 35] {
 
 /// Whether a piece is one that rank 0 takes.
 fn fits(shape: &Shape, piece: &PieceView<'_>) -> bool
-    ensures { IsTrue result → piece_reason shape.now 0 piece.now ≡ None }
+    ensures { IsTrue result → piece_reason shape.now 0 (piece_of piece.now) ≡ None }
 {
     if piece.rows() != shape.parameters() + 2
         || piece.group() >= shape.groups()
