@@ -10,3 +10,4 @@ pub mod Studies
 pub mod Sums
 pub mod Designs
 pub mod Ranks
+pub mod CheckpointBytes
