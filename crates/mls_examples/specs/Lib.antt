@@ -11,3 +11,4 @@ pub mod Sums
 pub mod Designs
 pub mod Ranks
 pub mod Schedules
+pub mod CheckpointBytes

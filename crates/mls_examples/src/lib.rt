@@ -5,6 +5,7 @@
 #![tactic(auto)]
 
 pub mod assembly;
+pub mod checkpoints;
 pub mod crashes;
 pub mod designs;
 pub mod fields;
