@@ -1,5 +1,5 @@
 -- The checkpoint of a rank that accepted one piece, in each version, and lists with one place changed.
-use Rattle.std.specs.Prelude.{◌≡◌, ℕ, Ok, List, [], ◌∷◌, ◌++◌, map, slice_set, take, drop, true}
+use Rattle.std.specs.Prelude.{◌≡◌, ℕ, Ok, List, [], ◌∷◌, map, slice_set, take, drop, true}
 use Rattle.std.specs.Int.{bytes_high_first}
 use Rattle.mls_model.specs.declared.lanes.LaneKind.TheVariants.{Client}
 use Rattle.mls_model.specs.Numbers.{joined}
