@@ -3,5 +3,4 @@ mod Padding
 pub mod Ranges
 pub mod Sound
 pub mod Told
-mod Pieces
 pub mod Spans

@@ -1,7 +1,6 @@
 pub mod Shapes
 pub mod Ranges
 pub mod Told
-pub mod Texts
 pub mod Memory
 pub mod Calls
 pub mod Clocks

@@ -1,8 +1,7 @@
-//! Writing whole texts to a sink.
+//! Writing a whole text to a sink.
 
 ghost use Rattle.std.specs.Prelude.{◌≡◌, ◌+◌, ◌<◌, ◌≤◌, length, OnOk, OnErr};
 ghost use Rattle.mls_base.specs.Told.{appended, Rose, WroteFront};
-ghost use Rattle.mls_base.specs.Texts.{text};
 
 use crate::faults::Failed;
 use crate::outside::Sink;
@@ -20,21 +19,6 @@ pub fn put_all<O: Sink>(out: &mut O, bytes: &[u8]) -> Result<(), Failed>
     while !rest.is_empty() {
         let n = out.write(rest)?;
         rest = rest.split_at(n).1;
-    }
-    Ok(())
-}
-
-/// Writes the pieces in a row. After `Failed` a front of them went out.
-pub fn put_pieces<O: Sink>(out: &mut O, pieces: &[&[u8]]) -> Result<(), Failed>
-    ensures written { OnOk result (O.told out.new ≡ appended (O.told out.old) (text pieces.now)) }
-    ensures faultless { OnOk result (O.faults out.new ≡ O.faults out.old) }
-    ensures sure { OnOk result (O.sure out.old ≤ O.sure out.new + length (text pieces.now)) }
-    ensures unsure { OnErr result (O.sure out.old < length (text pieces.now)) }
-    ensures front { OnErr result (WroteFront (O.told out.old) (O.told out.new) (text pieces.now)) }
-    ensures rose { OnErr result (Rose (O.faults out.old) (O.faults out.new)) }
-{
-    for piece in pieces {
-        put_all(out, piece)?;
     }
     Ok(())
 }

@@ -6,7 +6,7 @@ use crate::gate::{Gate, OpenGate};
 use crate::memory::{MemFiles, MemKeeper, MemSink};
 use crate::numbers::Numbers;
 use crate::outside::{Files, Keeper, Sink};
-use crate::put::{put_all, put_pieces};
+use crate::put::put_all;
 use crate::row::Row;
 use crate::shape::Shape;
 use crate::system::{StdFiles, StdSink};
@@ -63,7 +63,7 @@ fn texts_are_written(rt: HostRuntime) {
     let mut sink = MemSink::new(alloc, 4, fails).expect(&rt, "memory");
     assert!(rt; put_all(&mut sink, b"abc").is_ok());
     assert!(rt; put_all(&mut sink, b"d").is_err());
-    assert!(rt; put_pieces(&mut sink, &[b"".as_slice(), b"de"]).is_err());
+    assert!(rt; put_all(&mut sink, b"de").is_err());
     assert!(rt; sink.bytes() == b"abcd".as_slice());
 }
 
