@@ -1,4 +1,4 @@
-//! Writing whole texts to a sink.
+//! Writing a whole text to a sink.
 
 ghost use Rattle.std.specs.Prelude.{◌≡◌, ◌+◌, ◌<◌, ◌≤◌, length, OnOk, OnErr};
 ghost use Rattle.mls_base.specs.Told.{appended, Rose, WroteFront};

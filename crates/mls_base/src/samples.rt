@@ -4,7 +4,7 @@ ghost use Rattle.std.specs.Prelude.{◌≡◌};
 ghost use Rattle.mls_model.specs.Samples.{unshifted};
 
 /// How much is added to a signed value to make a shifted value of it.
-pub const SHIFT: i32 = 32_768;
+const SHIFT: i32 = 32_768;
 
 /// The value of a shifted value.
 pub fn unshifted(signed: bool, shifted: u16) -> i32
