@@ -1,4 +1,4 @@
-use Rattle.std.proofs.Common.{◌≡◌, List, ℕ, [], cond, length, ◌<◌, ◌≤◌, sym, ◌∙◌, ap, refl, arith}
+use Rattle.std.proofs.Common.{length, sym, ◌∙◌, ap, refl}
 use Rattle.std.proofs.lemmas.Bool.{cond-true, cond-false}
 use Rattle.mls_base.specs.Told.{appended}
 use Rattle.mls_model.specs.Studies.{Sizes}

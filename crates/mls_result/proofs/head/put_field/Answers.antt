@@ -1,4 +1,4 @@
-use Rattle.std.proofs.Common.{List, ℕ, sym, ◌∙◌, ap, subst, refl}
+use Rattle.std.proofs.Common.{sym, ◌∙◌, ap, refl}
 use Rattle.mls_base.specs.Told.{appended}
 use Rattle.mls_text.proofs.Writing.{appended-nil, line_writes}
 use Rattle.mls_result.proofs.Named.{named-some, named-none}

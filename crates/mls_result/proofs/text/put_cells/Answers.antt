@@ -1,13 +1,13 @@
-use Rattle.std.proofs.Common.{arith, ◌≡◌, ◌<◌, ◌≤◌, ◌∙◌, ap, sym, subst, length, Some}
+use Rattle.std.proofs.Common.{arith, ◌≡◌, ◌<◌, ◌≤◌, ◌∙◌, ap, sym, subst, length}
 use Rattle.std.specs.List.{flat_map}
 use Rattle.mls_base.specs.Told.{appended, WroteFront}
 use Rattle.mls_model.specs.Numbers.{below}
-use Rattle.mls_model.specs.Studies.{Sizes, plane_of}
+use Rattle.mls_model.specs.Studies.{Sizes}
 use Rattle.mls_model.specs.Blocks.{block, rank_of}
 use Rattle.mls_model.specs.ResultText.{field_text}
 use Rattle.mls_rank.specs.Cores.{sizes_of, rank_of as core_rank}
 use Rattle.mls_text.proofs.Writing.{line_out, line_failed, rose_since, failed_writes}
-use Rattle.mls_result.specs.Histories.{core_sums, kept_said}
+use Rattle.mls_result.specs.Histories.{kept_said}
 use Rattle.mls_text.proofs.Counted.{number_more, number_failed, number_all}
 use Rattle.mls_result.proofs.CellWords.{cell_said_of}
 use Rattle.mls_result.proofs.text.put_cells.Goals as goal
