@@ -44,11 +44,9 @@ pub returns-clause-bad_size : goal.returns-clause-bad_size
 unfolding of_bytes
 returns-clause-bad_size c = refl
 
-
 pub returns-clause-cut_after_one : goal.returns-clause-cut_after_one
 unfolding of_bytes
 returns-clause-cut_after_one c = refl
-
 
 pub returns-clause-bad_after_one : goal.returns-clause-bad_after_one
 unfolding of_bytes
