@@ -1,5 +1,5 @@
 -- Inputs that are loaded one after another, against what is right.
-use Rattle.std.proofs.Common.{◌≡◌, ℕ, List, Result, Ok, Err, OnOk, MatchResult, IfErr, refl, ap, sym, ◌∙◌, subst}
+use Rattle.std.proofs.Common.{◌≡◌, ℕ, List, Some, Result, Ok, Err, OnOk, MatchResult, IfErr, refl, ap, sym, ◌∙◌, subst}
 use Rattle.mls_base.specs.Told.{Names}
 use Rattle.mls_result.specs.declared.status.Status.{Status}
 use Rattle.mls_cli.specs.declared.refusal.Refusal.{Refusal}

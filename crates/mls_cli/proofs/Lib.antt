@@ -3,3 +3,4 @@ pub mod InputSteps
 pub mod Carrying
 pub mod Folded
 pub mod Wording
+pub mod Gathered

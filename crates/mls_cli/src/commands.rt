@@ -15,7 +15,7 @@ ghost use Rattle.mls_cli.specs.Refusals.{seen};
 use crate::design::run_design;
 use crate::fold::run_fold;
 use crate::watch::run_watch;
-use crate::words::{FoldNames, Words, WordsFault, read_words};
+use crate::words::{Words, WordsFault, read_words};
 use mls_base::outside::{Files, Keeper, Sink};
 use mls_result::{Status, Unbuilt};
 use std::alloc::Global;
@@ -40,20 +40,21 @@ fn carry_out<F: Files, O: Sink, K: Keeper + Drop>(
             study,
             tape,
             schedule,
-        } => {
-            let names = FoldNames {
-                study,
-                tape,
-                schedule,
-            };
-            return run_fold(alloc, &names, files, out, keepers);
-        }
+        } => return run_fold(
+            alloc,
+            study.as_str(),
+            tape.as_str(),
+            &schedule,
+            files,
+            out,
+            keepers,
+        ),
         Words::Watch { study, events } => {
-            let status = run_watch(alloc, &study, &events, files, out);
+            let status = run_watch(alloc, study.as_str(), events.as_str(), files, out);
             return (status, keepers);
         }
         Words::Design { study } => {
-            let status = run_design(alloc, &study, files, out);
+            let status = run_design(alloc, study.as_str(), files, out);
             return (status, keepers);
         }
         Words::Trial { .. } | Words::Bins { .. } | Words::Export { .. } | Words::Resume { .. } => {

@@ -13,7 +13,7 @@ use mls_base::outside::{Files, Sink};
 use mls_design::{Design, write_design};
 use mls_launch::OutFault;
 use mls_result::Status;
-use mls_study::{Name, Study};
+use mls_study::Study;
 use std::alloc::Global;
 
 /// Draws the design and writes its text.
@@ -30,7 +30,7 @@ fn write_drawn<O: Sink>(alloc: Global, study: &Study, out: &mut O) -> Result<(),
 /// Prints the design of the study of a name.
 pub(crate) fn run_design<F: Files, O: Sink>(
     alloc: Global,
-    study_name: &Name,
+    study_name: &str,
     files: &mut F,
     out: &mut O,
 ) -> Status
@@ -39,7 +39,7 @@ pub(crate) fn run_design<F: Files, O: Sink>(
         (sink O.told O.faults out.old) (sink O.told O.faults out.new) result }
     ensures no_usage { result ≡ Status.Usage → ⊥ }
 {
-    match load_study(alloc, files, study_name.as_str()) {
+    match load_study(alloc, files, study_name) {
         Ok(study) => {
             let answer = write_drawn(alloc, &study, out);
             return out_status(answer);

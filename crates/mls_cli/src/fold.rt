@@ -6,10 +6,10 @@ ghost use Rattle.mls_cli.specs.Answers.{Carries, sink};
 ghost use Rattle.mls_cli.specs.Refusals.{seen};
 
 use crate::fold_inputs::load_inputs;
-use crate::words::FoldNames;
 use mls_base::outside::{Files, Keeper, Sink};
 use mls_replay::fold;
 use mls_result::{FoldFault, Status};
+use mls_study::Name;
 use std::alloc::Global;
 
 /// What is answered after a fold.
@@ -26,19 +26,21 @@ fn fold_status(answer: Result<(), FoldFault>) -> Status
 /// Folds the study and the tape of these names under their schedule, or under the plain one.
 pub(crate) fn run_fold<F: Files, O: Sink, K: Keeper + Drop>(
     alloc: Global,
-    names: &FoldNames,
+    study_name: &str,
+    tape_name: &str,
+    schedule_name: &Option<Name>,
     files: &mut F,
     out: &mut O,
     keepers: Vec<K>,
 ) -> (Status, Vec<K>)
     requires { vec_len keepers ≡ 64 }
-    ensures carried { Carries (right_fold names.now.study names.now.tape names.now.schedule)
+    ensures carried { Carries (right_fold study_name.now tape_name.now schedule_name.now)
         (seen F.held F.load_faults F.save_faults files.old) (seen F.held F.load_faults F.save_faults files.new)
         (sink O.told O.faults out.old) (sink O.told O.faults out.new) result.0 }
     ensures no_usage { result.0 ≡ Status.Usage → ⊥ }
     ensures keepers { result.1 ≡ keepers }
 {
-    let inputs = match load_inputs(alloc, files, names) {
+    let inputs = match load_inputs(alloc, files, study_name, tape_name, schedule_name) {
         Ok(inputs) => inputs,
         Err(refusal) => return (refusal.into(), keepers),
     };

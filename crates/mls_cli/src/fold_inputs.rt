@@ -11,7 +11,6 @@ ghost use Rattle.mls_cli.specs.Refusals.{Agrees, IsOfContent, Loads, seen};
 
 use crate::loading::{load, load_study};
 use crate::refusal::Refusal;
-use crate::words::FoldNames;
 use mls_base::outside::Files;
 use mls_replay::is_calm;
 use mls_result::{FileRole, Unbuilt};
@@ -95,19 +94,13 @@ fn load_named_schedule<F: Files>(
     alloc: Global,
     files: &mut F,
     tape: &Tape,
-    name: &Name,
+    name: &str,
 ) -> Result<Schedule, Refusal>
     ensures loads { Loads (λ s. s) (right_orders tape.now.ranks tape.now.lanes (Some name.now))
         (seen F.held F.load_faults F.save_faults files.old) (seen F.held F.load_faults F.save_faults files.new) result }
     ensures legal { IfOk result (λ s. is_legal tape.now.ranks tape.now.lanes s ≡ true) }
 {
-    let bytes = load(
-        alloc,
-        files,
-        name.as_str(),
-        LONGEST_SCHEDULE,
-        FileRole::Schedule,
-    )?;
+    let bytes = load(alloc, files, name, LONGEST_SCHEDULE, FileRole::Schedule)?;
     schedule_in(alloc, tape, bytes.as_slice())
 }
 
@@ -135,7 +128,7 @@ fn load_schedule<F: Files>(
     ensures legal { IfOk result (λ s. is_legal tape.now.ranks tape.now.lanes s ≡ true) }
 {
     match name {
-        Some(name) => return load_named_schedule(alloc, files, tape, name),
+        Some(name) => return load_named_schedule(alloc, files, tape, name.as_str()),
         None => return plain_schedule(alloc, tape),
     }
 }
@@ -144,17 +137,19 @@ fn load_schedule<F: Files>(
 pub(crate) fn load_inputs<F: Files>(
     alloc: Global,
     files: &mut F,
-    names: &FoldNames,
+    study_name: &str,
+    tape_name: &str,
+    schedule_name: &Option<Name>,
 ) -> Result<FoldInputs, Refusal>
     ensures loads { Loads (λ (inputs : FoldInputs). result_text inputs.study inputs.tape.lanes inputs.schedule)
-        (right_fold names.now.study names.now.tape names.now.schedule)
+        (right_fold study_name.now tape_name.now schedule_name.now)
         (seen F.held F.load_faults F.save_faults files.old) (seen F.held F.load_faults F.save_faults files.new) result }
     ensures calm { IfOk result (λ inputs. is_calm inputs.tape.lanes ≡ true) }
     ensures legal { IfOk result (λ inputs. is_legal inputs.study.sizes.ranks inputs.tape.lanes inputs.schedule ≡ true) }
 {
-    let study = load_study(alloc, files, names.study.as_str())?;
-    let tape = load_tape(alloc, files, &study, names.tape.as_str())?;
-    let schedule = load_schedule(alloc, files, &tape, &names.schedule)?;
+    let study = load_study(alloc, files, study_name)?;
+    let tape = load_tape(alloc, files, &study, tape_name)?;
+    let schedule = load_schedule(alloc, files, &tape, schedule_name)?;
     Ok(FoldInputs {
         study,
         tape,

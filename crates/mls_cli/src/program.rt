@@ -2,7 +2,7 @@
 
 ghost use Rattle.std.specs.Prelude.{◌≡◌, ℕ, List, ◌++◌, map, string_bytes, vec_len, Some, IfOk, IsOkAnd};
 ghost use Rattle.std.specs.Io.Buffered.{writer_inner};
-ghost use Rattle.mls_base.specs.Told.{Names, Rose};
+ghost use Rattle.mls_base.specs.Told.{Names};
 ghost use Rattle.mls_cli.specs.Ideal.{ideal};
 
 use crate::commands::melissa;
@@ -51,7 +51,6 @@ pub(crate) fn run_over<F: Files, W: SteadyWriter + Drop, K: Keeper + Drop>(
     requires { vec_len keepers ≡ 64 }
     ensures done { (held : Names) → F.held files.old ≡ Some held → (before : List ℕ) → ⟦<BufferedSink<W> as Sink>⟧.told out.old ≡ Some before → result ≡ Status.Done
         → IsOkAnd (ideal held (map string_bytes words.now)) (λ text. W.contents (writer_inner out.new.out) ≡ Some (before ++ text)) }
-    ensures write_fault { result ≡ Status.WriteFault → Rose (⟦<BufferedSink<W> as Sink>⟧.faults out.old) (⟦<BufferedSink<W> as Sink>⟧.faults out.new) }
 {
     let (status, _) = melissa(alloc, words, files, out, keepers);
     match status {

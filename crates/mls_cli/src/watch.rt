@@ -13,7 +13,7 @@ use crate::written::out_status;
 use mls_base::outside::{Files, Sink};
 use mls_launch::{Event, EventFault, OutFault, read_events, write_watch};
 use mls_result::{FileRole, Status};
-use mls_study::{Name, Study};
+use mls_study::Study;
 use std::alloc::Global;
 
 /// The most bytes of an events file.
@@ -52,14 +52,14 @@ fn load_events<F: Files>(alloc: Global, files: &mut F, name: &str) -> Result<Vec
 fn load_inputs<F: Files>(
     alloc: Global,
     files: &mut F,
-    study_name: &Name,
-    events_name: &Name,
+    study_name: &str,
+    events_name: &str,
 ) -> Result<WatchInputs, Refusal>
     ensures { Loads (λ (inputs : WatchInputs). watch_text inputs.study.sizes inputs.events.items) (right_watch study_name.now events_name.now)
         (seen F.held F.load_faults F.save_faults files.old) (seen F.held F.load_faults F.save_faults files.new) result }
 {
-    let study = load_study(alloc, files, study_name.as_str())?;
-    let events = load_events(alloc, files, events_name.as_str())?;
+    let study = load_study(alloc, files, study_name)?;
+    let events = load_events(alloc, files, events_name)?;
     Ok(WatchInputs { study, events })
 }
 
@@ -74,8 +74,8 @@ fn write_inputs<O: Sink>(alloc: Global, inputs: &WatchInputs, out: &mut O) -> Re
 /// Prints a launcher's decisions over the events of a name.
 pub(crate) fn run_watch<F: Files, O: Sink>(
     alloc: Global,
-    study_name: &Name,
-    events_name: &Name,
+    study_name: &str,
+    events_name: &str,
     files: &mut F,
     out: &mut O,
 ) -> Status

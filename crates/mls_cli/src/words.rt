@@ -63,10 +63,10 @@ pub enum Words {
 
 /// The names of a study, a tape and, if there is one, a schedule.
 #[derive(Debug, Drop)]
-pub(crate) struct FoldNames {
-    pub(crate) study: Name,
-    pub(crate) tape: Name,
-    pub(crate) schedule: Option<Name>,
+struct FoldNames {
+    study: Name,
+    tape: Name,
+    schedule: Option<Name>,
 }
 
 /// Why words are no command.
