@@ -3,7 +3,7 @@ pub mod Rows
 pub mod Bounds
 pub mod Differences
 pub mod Covariances
-pub mod Columns
+pub mod RowColumns
 pub mod Schwarz
 pub mod Parts
 pub mod Same

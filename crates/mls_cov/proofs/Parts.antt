@@ -7,7 +7,7 @@ use Rattle.mls_model.specs.Statistics.{column, covariance_top, spread_top}
 use Rattle.mls_cov.specs.Sums.{sample, sum_of, products_of, HoldsSums}
 use Rattle.mls_cov.specs.Rules.{AreSums, AreProducts, KeepsRules, spread_top_in, covariance_top_in}
 use Rattle.mls_cov.proofs.Covariances.{form}
-use Rattle.mls_cov.proofs.Columns.{one_pass_values}
+use Rattle.mls_cov.proofs.RowColumns.{one_pass_values}
 use Rattle.mls_cov.proofs.Schwarz.{abs_form, abs_variance, bounded_all, sums_of_samples, at_most}
 
 places_in : (j p : ℕ) (rows : List (List ℕ)) → j < p + 2 → AllByRecursion (λ row. length row ≡ p + 2) rows → AllByRecursion (λ row. j < length row) rows

@@ -9,7 +9,7 @@ use Rattle.mls_cov.proofs.Squares.{spread_more, products_more}
 use Rattle.mls_cov.proofs.Differences.{IsDifference, abs_of_difference, lower_by}
 use Rattle.mls_cov.proofs.Covariances.{form, covariance_form}
 use Rattle.mls_cov.proofs.Bounds.{sums_more, variance_small}
-use Rattle.mls_cov.proofs.Columns.{raised, depth, column_raised, column_map, shift_of, unshifted_is}
+use Rattle.mls_cov.proofs.RowColumns.{raised, depth, column_raised, column_map, shift_of, unshifted_is}
 use Rattle.mls_model.specs.Samples.{unshifted}
 use Rattle.mls_cov.specs.Sums.{sample}
 

@@ -2,3 +2,4 @@ pub mod Sums
 pub mod Rules
 pub mod Steps
 pub mod Standing
+pub mod ColumnSteps

@@ -1,5 +1,5 @@
 -- What holds of the sums of n rows of samples of 16 bits.
-use Rattle.std.specs.Prelude.{◌≡◌, ℕ, ◌+◌, ◌-◌, ◌*◌, ◌<◌, ◌≤◌, List, slice_index}
+use Rattle.std.specs.Prelude.{◌≡◌, ℕ, ◌-◌, ◌*◌, ◌<◌, ◌≤◌, List, slice_index}
 use Rattle.mls_model.specs.CellSums.{place_a, place_b, place_aa, place_bb, place_c, place_cc, place_ac, place_bc}
 use Rattle.std.specs.Int.{abs_diff}
 

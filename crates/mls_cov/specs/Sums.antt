@@ -1,5 +1,5 @@
 -- The sums of a list of rows, side by side.
-use Rattle.std.specs.Prelude.{◌≡◌, ℕ, ◌+◌, ◌*◌, ◌<◌, List, length, slice_index}
+use Rattle.std.specs.Prelude.{◌≡◌, ℕ, ◌+◌, ◌<◌, List, length, slice_index}
 use Rattle.std.specs.List.{AllByRecursion}
 -- a sample of a row: 0 is A, 1 is B, 2 + k is C^k; the sum of a column, and that of the products of two columns
 pub use Rattle.mls_model.specs.CellSums.{place_a, place_b, place_aa, place_bb, place_c, place_cc, place_ac, place_bc, sample, sum_of, products_of}

@@ -16,7 +16,7 @@ pub fn sum_count(parameters: u32) -> usize
     4 + 4 * parameters as usize
 }
 
-fn product(x: u16, y: u16) -> u64
+pub(crate) fn product(x: u16, y: u16) -> u64
     ensures value { result ≡ x * y }
     ensures small { result < 2 ^ 32 }
 {

@@ -2,7 +2,7 @@
 use Rattle.std.specs.Fmt.{digits}
 use Rattle.mls_model.specs.Places.{gathered, any_place, all_places}
 use Rattle.mls_model.specs.Frames.{piece_head, body, spelling, samples_in, fixed_frame, piece_in, fixed_sight, piece_sight, sized_sight, sight}
-use Rattle.mls_model.specs.Lanes.{end_at, frames_in, lane_of, lane_at, lanes_at, samples_byte, lane_bytes_of, with_events, tape_of}
+use Rattle.mls_model.specs.Lanes.{end_at, frames_in, lane_of, lane_at, lanes_at, samples_byte, lane_bytes_of, with_events, tape_of, lane_spelling, tape_bytes}
 use Rattle.mls_model.specs.Schedules.{plain_order, plain, is_legal_order, is_legal, is_complete, schedule_text}
 use Rattle.mls_model.specs.Histories.{history}
 use Rattle.mls_model.specs.Survival.{survives, surviving, last_save, crash_after_save}
@@ -17,7 +17,7 @@ use Rattle.mls_model.specs.SumsText.{sums_powers, sums_extrema}
 
 -- what the bytes of a frame, a lane and a tape are
 unfoldable pub of_bytes : Unit {0}
-unfolding piece_head body spelling samples_in fixed_frame piece_in fixed_sight piece_sight sized_sight sight end_at frames_in lane_of lane_at lanes_at samples_byte lane_bytes_of with_events tape_of
+unfolding piece_head body spelling samples_in fixed_frame piece_in fixed_sight piece_sight sized_sight sight end_at frames_in lane_of lane_at lanes_at samples_byte lane_bytes_of with_events tape_of lane_spelling tape_bytes
 of_bytes = tt
 
 -- what happens at a rank

@@ -8,3 +8,4 @@ pub mod Lowered
 pub mod Least
 pub mod Counted
 pub mod Ruled
+pub mod AfterRows

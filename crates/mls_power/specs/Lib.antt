@@ -1,3 +1,5 @@
+pub mod ColumnSteps
+pub mod Columns
 pub mod ExceedStanding
 pub mod ExtremaStanding
 pub mod Extremes

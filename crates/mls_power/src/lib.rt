@@ -2,6 +2,7 @@
 #![tactic(auto)]
 
 pub mod above;
+pub mod columns;
 pub mod ends;
 pub mod exceed;
 pub mod extrema;

@@ -1,4 +1,4 @@
-use Rattle.mls_cov.proofs.Columns.{one_pass}
+use Rattle.mls_cov.proofs.RowColumns.{one_pass}
 use Rattle.mls_cov.proofs.laws.covariance_in_one_pass.Goals as goal
 
 pub returns : goal.returns

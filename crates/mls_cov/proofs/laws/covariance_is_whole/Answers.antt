@@ -1,4 +1,4 @@
-use Rattle.mls_cov.proofs.Columns.{whole_columns}
+use Rattle.mls_cov.proofs.RowColumns.{whole_columns}
 use Rattle.mls_cov.proofs.laws.covariance_is_whole.Goals as goal
 
 pub returns : goal.returns

@@ -1,5 +1,5 @@
 use Rattle.std.proofs.Common.{◌∙◌, sym}
-use Rattle.mls_cov.proofs.Columns.{one_pass, one_pass_values}
+use Rattle.mls_cov.proofs.RowColumns.{one_pass, one_pass_values}
 use Rattle.mls_cov.proofs.laws.covariance_of_shifted_values.Goals as goal
 
 pub returns : goal.returns

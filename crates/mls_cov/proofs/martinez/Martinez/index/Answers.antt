@@ -4,68 +4,68 @@ use Rattle.mls_cov.proofs.Bounds.{products_small, variance_small}
 use Rattle.mls_cov.proofs.Parts.{read_covariance, read_variance, read_within}
 use Rattle.mls_cov.proofs.martinez.Martinez.index.Goals as goal
 
-pub covariance-requires-clause-third : goal.covariance-requires-clause-third
-covariance-requires-clause-third c =
+pub covariance_top-requires-clause-third : goal.covariance_top-requires-clause-third
+covariance_top-requires-clause-third c =
     let m = c.args.self.now in
     let column = m.rules.columns c.args.k c.requires in
     products_small m.count _ _ _ _ _ m.few m.rules.b column.sums_in column.with_b
 
-pub covariance-requires-2-clause-third : goal.covariance-requires-2-clause-third
-covariance-requires-2-clause-third c =
+pub covariance_top-requires-2-clause-third : goal.covariance_top-requires-2-clause-third
+covariance_top-requires-2-clause-third c =
     let m = c.args.self.now in
     let column = m.rules.columns c.args.k c.requires in
     products_small m.count _ _ _ _ _ m.few m.rules.a column.sums_in column.with_a
 
 pub returns-clause-cov_b : goal.returns-clause-cov_b
 returns-clause-cov_b c = λ signed rows h. (
-    let fits : FitsSigned w128 c.covariance.result = search rules in
+    let fits : FitsSigned w128 c.covariance_top.result = search rules in
     let column = h.sums.columns c.args.k c.requires in
-    to_z-of_z fits ∙ (c.covariance.ensures ∙ read_covariance signed c.args.self.now.parameters _ _ _ _ 1 (2 + c.args.k) rows h.sums.rows_in (omega arith) (omega (arith, c.requires)) h.count h.sums.b column.first column.with_b)
+    to_z-of_z fits ∙ (c.covariance_top.ensures ∙ read_covariance signed c.args.self.now.parameters _ _ _ _ 1 (2 + c.args.k) rows h.sums.rows_in (omega arith) (omega (arith, c.requires)) h.count h.sums.b column.first column.with_b)
     )
 
 pub returns-clause-cov_a : goal.returns-clause-cov_a
 returns-clause-cov_a c = λ signed rows h. (
-    let fits : FitsSigned w128 c.covariance-2.result = search rules in
+    let fits : FitsSigned w128 c.covariance_top-2.result = search rules in
     let column = h.sums.columns c.args.k c.requires in
-    to_z-of_z fits ∙ (c.covariance-2.ensures ∙ read_covariance signed c.args.self.now.parameters _ _ _ _ 0 (2 + c.args.k) rows h.sums.rows_in (omega arith) (omega (arith, c.requires)) h.count h.sums.a column.first column.with_a)
+    to_z-of_z fits ∙ (c.covariance_top-2.ensures ∙ read_covariance signed c.args.self.now.parameters _ _ _ _ 0 (2 + c.args.k) rows h.sums.rows_in (omega arith) (omega (arith, c.requires)) h.count h.sums.a column.first column.with_a)
     )
 
 pub returns-clause-var_a : goal.returns-clause-var_a
 returns-clause-var_a c = λ signed rows h. (
     let m = c.args.self.now in
-    c.variance.ensures ∙ read_variance signed m.parameters m.count _ _ 0 rows h.sums.rows_in (omega arith) h.count h.sums.a h.sums.aa m.rules.a.spread
+    c.spread_top.ensures ∙ read_variance signed m.parameters m.count _ _ 0 rows h.sums.rows_in (omega arith) h.count h.sums.a h.sums.aa m.rules.a.spread
     )
 
 pub returns-clause-var_b : goal.returns-clause-var_b
 returns-clause-var_b c = λ signed rows h. (
     let m = c.args.self.now in
-    c.variance-2.ensures ∙ read_variance signed m.parameters m.count _ _ 1 rows h.sums.rows_in (omega arith) h.count h.sums.b h.sums.bb m.rules.b.spread
+    c.spread_top-2.ensures ∙ read_variance signed m.parameters m.count _ _ 1 rows h.sums.rows_in (omega arith) h.count h.sums.b h.sums.bb m.rules.b.spread
     )
 
 pub returns-clause-var_c : goal.returns-clause-var_c
 returns-clause-var_c c = λ signed rows h. (
     let m = c.args.self.now in
     let column = h.sums.columns c.args.k c.requires in
-    c.variance-3.ensures ∙ read_variance signed m.parameters m.count _ _ (2 + c.args.k) rows h.sums.rows_in (omega (arith, c.requires)) h.count column.first column.second (m.rules.columns c.args.k c.requires).sums_in.spread
+    c.spread_top-3.ensures ∙ read_variance signed m.parameters m.count _ _ (2 + c.args.k) rows h.sums.rows_in (omega (arith, c.requires)) h.count column.first column.second (m.rules.columns c.args.k c.requires).sums_in.spread
     )
 
 pub returns-clause-within_b : goal.returns-clause-within_b
 returns-clause-within_b c =
-    let fits : FitsSigned w128 c.covariance.result = search rules in
+    let fits : FitsSigned w128 c.covariance_top.result = search rules in
     let m = c.args.self.now in
-    read_within _ _ _ m.count _ _ _ _ _ (to_z-of_z fits ∙ c.covariance.ensures) c.variance-2.ensures c.variance-3.ensures (m.rules.columns c.args.k c.requires).with_b
+    read_within _ _ _ m.count _ _ _ _ _ (to_z-of_z fits ∙ c.covariance_top.ensures) c.spread_top-2.ensures c.spread_top-3.ensures (m.rules.columns c.args.k c.requires).with_b
 
 pub returns-clause-within_a : goal.returns-clause-within_a
 returns-clause-within_a c =
-    let fits : FitsSigned w128 c.covariance-2.result = search rules in
+    let fits : FitsSigned w128 c.covariance_top-2.result = search rules in
     let m = c.args.self.now in
-    read_within _ _ _ m.count _ _ _ _ _ (to_z-of_z fits ∙ c.covariance-2.ensures) c.variance.ensures c.variance-3.ensures (m.rules.columns c.args.k c.requires).with_a
+    read_within _ _ _ m.count _ _ _ _ _ (to_z-of_z fits ∙ c.covariance_top-2.ensures) c.spread_top.ensures c.spread_top-3.ensures (m.rules.columns c.args.k c.requires).with_a
 
 pub returns-clause-small_a : goal.returns-clause-small_a
-returns-clause-small_a c = let m = c.args.self.now in rw c.variance.ensures (variance_small m.count _ _ m.few m.rules.a)
+returns-clause-small_a c = let m = c.args.self.now in rw c.spread_top.ensures (variance_small m.count _ _ m.few m.rules.a)
 
 pub returns-clause-small_b : goal.returns-clause-small_b
-returns-clause-small_b c = let m = c.args.self.now in rw c.variance-2.ensures (variance_small m.count _ _ m.few m.rules.b)
+returns-clause-small_b c = let m = c.args.self.now in rw c.spread_top-2.ensures (variance_small m.count _ _ m.few m.rules.b)
 
 pub returns-clause-small_c : goal.returns-clause-small_c
-returns-clause-small_c c = let m = c.args.self.now in rw c.variance-3.ensures (variance_small m.count _ _ m.few (m.rules.columns c.args.k c.requires).sums_in)
+returns-clause-small_c c = let m = c.args.self.now in rw c.spread_top-3.ensures (variance_small m.count _ _ m.few (m.rules.columns c.args.k c.requires).sums_in)

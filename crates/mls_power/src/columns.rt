@@ -1,0 +1,202 @@
+//! Adding the samples of eight rows to columns of numbers, one number for each place. The loops over places are made of a few steps that each add to several.
+
+ghost use Rattle.std.specs.Prelude.{◌≡◌, ℕ, ◌+◌, ◌*◌, ◌^◌, ◌/◌, ◌%◌, ◌<◌, ◌≤◌, length, slice_index};
+ghost use Rattle.mls_power.specs.Columns.{Walked};
+ghost use Rattle.mls_power.specs.ColumnSteps.{more_cubes, more_low, more_high, more_least, more_greatest, more_above};
+
+use crate::above::one_if_above;
+
+/// How many rows are added together.
+pub const GROUPS: usize = 8;
+
+fn cube(x: u16) -> u64
+    ensures value { result ≡ x * x * x }
+    ensures small { result ≤ 281462092005375 }
+{
+    let square = x as u32 * x as u32;
+    square as u64 * x as u64
+}
+
+fn fourth(x: u16) -> u64
+    ensures { result ≡ x * x * (x * x) }
+{
+    let square = x as u32 * x as u32;
+    square as u64 * square as u64
+}
+
+fn low_half(x: u64) -> u64
+    ensures value { result ≡ x % 2 ^ 32 }
+    ensures small { result < 2 ^ 32 }
+{
+    x & 0xffff_ffff
+}
+
+fn high_half(x: u64) -> u64
+    ensures value { result ≡ x / 2 ^ 32 }
+    ensures small { result < 2 ^ 32 }
+{
+    x >> 32
+}
+
+/// Adds the cubes of the samples that begin at `x` in each row.
+#[tactic(auto, using(crate::proofs::AfterRows::after_none, crate::proofs::AfterRows::after_more))]
+pub fn add_cubes(
+    words: &mut [u64],
+    at: usize,
+    count: usize,
+    samples: &[u16],
+    x: usize,
+    stride: usize,
+)
+    requires words { at + count ≤ length words.old }
+    requires samples { stride * 7 + (x + count) ≤ length samples.now }
+    requires room { (k : ℕ) → k < count → slice_index words.old (at + k) ≤ 281462092005375 * 65527 }
+    ensures { Walked at count 8 words.old words.new (more_cubes samples.now stride x) }
+{
+    for j in 0..count {
+        let mut sum = words[at + j];
+        for g in 0..GROUPS {
+            sum += cube(samples[stride * g + (x + j)]);
+        }
+        words[at + j] = sum;
+    }
+}
+
+/// Adds the low halves of the fourth powers of the samples that begin at `x` and at `y` in each row.
+#[tactic(auto, using(crate::proofs::AfterRows::after_none, crate::proofs::AfterRows::after_more))]
+pub fn add_low(
+    words: &mut [u64],
+    at: usize,
+    count: usize,
+    samples: &[u16],
+    x: usize,
+    y: usize,
+    stride: usize,
+)
+    requires words { at + count ≤ length words.old }
+    requires samples_a { stride * 7 + (x + count) ≤ length samples.now }
+    requires samples_b { stride * 7 + (y + count) ≤ length samples.now }
+    requires room { (k : ℕ) → k < count → slice_index words.old (at + k) < 2 ^ 63 }
+    ensures { Walked at count 8 words.old words.new (more_low samples.now stride x y) }
+{
+    for j in 0..count {
+        let mut sum = words[at + j];
+        for g in 0..GROUPS {
+            let a = fourth(samples[stride * g + (x + j)]);
+            let b = fourth(samples[stride * g + (y + j)]);
+            sum += low_half(a) + low_half(b);
+        }
+        words[at + j] = sum;
+    }
+}
+
+/// Adds the high halves of these fourth powers.
+#[tactic(auto, using(crate::proofs::AfterRows::after_none, crate::proofs::AfterRows::after_more))]
+pub fn add_high(
+    words: &mut [u64],
+    at: usize,
+    count: usize,
+    samples: &[u16],
+    x: usize,
+    y: usize,
+    stride: usize,
+)
+    requires words { at + count ≤ length words.old }
+    requires samples_a { stride * 7 + (x + count) ≤ length samples.now }
+    requires samples_b { stride * 7 + (y + count) ≤ length samples.now }
+    requires room { (k : ℕ) → k < count → slice_index words.old (at + k) < 2 ^ 63 }
+    ensures { Walked at count 8 words.old words.new (more_high samples.now stride x y) }
+{
+    for j in 0..count {
+        let mut sum = words[at + j];
+        for g in 0..GROUPS {
+            let a = fourth(samples[stride * g + (x + j)]);
+            let b = fourth(samples[stride * g + (y + j)]);
+            sum += high_half(a) + high_half(b);
+        }
+        words[at + j] = sum;
+    }
+}
+
+/// Takes the least of each number and the samples that begin at `x` and at `y` in each row.
+#[tactic(auto, using(crate::proofs::AfterRows::after_none, crate::proofs::AfterRows::after_more))]
+pub fn take_least(
+    ends: &mut [u16],
+    at: usize,
+    count: usize,
+    samples: &[u16],
+    x: usize,
+    y: usize,
+    stride: usize,
+)
+    requires ends { at + count ≤ length ends.old }
+    requires samples_a { stride * 7 + (x + count) ≤ length samples.now }
+    requires samples_b { stride * 7 + (y + count) ≤ length samples.now }
+    ensures { Walked at count 8 ends.old ends.new (more_least samples.now stride x y) }
+{
+    for j in 0..count {
+        let mut least = ends[at + j];
+        for g in 0..GROUPS {
+            let a = samples[stride * g + (x + j)];
+            let b = samples[stride * g + (y + j)];
+            least = least.min(a).min(b);
+        }
+        ends[at + j] = least;
+    }
+}
+
+/// Takes the greatest of each number and these samples.
+#[tactic(auto, using(crate::proofs::AfterRows::after_none, crate::proofs::AfterRows::after_more))]
+pub fn take_greatest(
+    ends: &mut [u16],
+    at: usize,
+    count: usize,
+    samples: &[u16],
+    x: usize,
+    y: usize,
+    stride: usize,
+)
+    requires ends { at + count ≤ length ends.old }
+    requires samples_a { stride * 7 + (x + count) ≤ length samples.now }
+    requires samples_b { stride * 7 + (y + count) ≤ length samples.now }
+    ensures { Walked at count 8 ends.old ends.new (more_greatest samples.now stride x y) }
+{
+    for j in 0..count {
+        let mut greatest = ends[at + j];
+        for g in 0..GROUPS {
+            let a = samples[stride * g + (x + j)];
+            let b = samples[stride * g + (y + j)];
+            greatest = greatest.max(a).max(b);
+        }
+        ends[at + j] = greatest;
+    }
+}
+
+/// Counts these samples where they are above a threshold.
+#[tactic(auto, using(crate::proofs::AfterRows::after_none, crate::proofs::AfterRows::after_more))]
+pub fn count_above(
+    numbers: &mut [u32],
+    at: usize,
+    count: usize,
+    samples: &[u16],
+    x: usize,
+    y: usize,
+    stride: usize,
+    threshold: u16,
+)
+    requires numbers { at + count ≤ length numbers.old }
+    requires samples_a { stride * 7 + (x + count) ≤ length samples.now }
+    requires samples_b { stride * 7 + (y + count) ≤ length samples.now }
+    requires room { (k : ℕ) → k < count → slice_index numbers.old (at + k) ≤ 131070 }
+    ensures { Walked at count 8 numbers.old numbers.new (more_above samples.now stride threshold x y) }
+{
+    for j in 0..count {
+        let mut number = numbers[at + j];
+        for g in 0..GROUPS {
+            let a = one_if_above(samples[stride * g + (x + j)], threshold);
+            let b = one_if_above(samples[stride * g + (y + j)], threshold);
+            number += a + b;
+        }
+        numbers[at + j] = number;
+    }
+}
