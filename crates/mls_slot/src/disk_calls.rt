@@ -1,6 +1,6 @@
 //! The inner steps of a keeper on its disk, of at most three calls each.
 
-ghost use Rattle.std.specs.Prelude.{◌≡◌, ◌⊎◌, ℕ, Some, ◌+◌, ◌<◌, ◌≤◌, List, [], ◌∷◌, take, length, IsTrue, IfOk, OnOk, OnErr};
+ghost use Rattle.std.specs.Prelude.{◌≡◌, ◌⊎◌, ℕ, None, Some, ◌+◌, ◌<◌, ◌≤◌, List, [], ◌∷◌, take, length, IsTrue, IfOk, OnOk, OnErr};
 ghost use Rattle.std.specs.Int.{w64, to_be_bytes};
 ghost use Rattle.mls_base.specs.Told.{Rose};
 ghost use Rattle.mls_slot.specs.Disks.{View, IsLeft, IsAtRest, Torn, over};
@@ -110,6 +110,7 @@ fn shut_gate<D: Disk>(disk: &mut D, area: u32, head: Head) -> Result<(), Failed>
 pub fn store<D: Disk>(disk: &mut D, heads: Heads, payload: &[u8]) -> Result<Heads, Failed>
     requires known { IsTrue (D.tells disk.old) → Knows heads (D.view disk.old) }
     ensures moments { IsTrue (D.tells disk.new) → LeavesOnly (D.view disk.old) (D.view disk.new) (λ image. (value image ≡ value (D.view disk.old).seen) ⊎ (value image ≡ Some payload.now)) }
+    ensures first { OnOk result (IsTrue (D.tells disk.old) → value (D.view disk.old).seen ≡ None → (D.view disk.new).seen 1 ≡ (D.view disk.old).seen 1) }
     ensures stores { IfOk result (λ known. IsTrue (D.tells disk.old) → Stores payload.now known (D.view disk.new)) }
     ensures tells { OnOk result (D.tells disk.new ≡ D.tells disk.old) }
     ensures ceased { OnErr result (IsTrue (D.tells disk.new) → IsTrue (D.tells disk.old)) }

@@ -2,7 +2,7 @@ use Rattle.std.proofs.Common.{length, refl, ◌∙◌, ap, sym}
 use Rattle.mls_slot.specs.Disks.{IsLeft}
 use Rattle.mls_slot.proofs.Moments.{started, quiet_sync, quiet_look}
 use Rattle.mls_slot.proofs.Writes.{along, front_read, head_read}
-use Rattle.mls_slot.proofs.steps.read_head.Goals as goal
+use Rattle.mls_slot.proofs.disk_calls.read_head.Goals as goal
 
 pub returns-in_err-sync-clause-moments : goal.returns-in_err-sync-clause-moments
 returns-in_err-sync-clause-moments g c = λ t.

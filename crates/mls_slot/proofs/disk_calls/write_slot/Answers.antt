@@ -1,6 +1,6 @@
 use Rattle.mls_slot.proofs.Moments.{reach_sync}
 use Rattle.mls_slot.proofs.Writes.{along, slot_begun, slot_filled}
-use Rattle.mls_slot.proofs.steps.write_slot.Goals as goal
+use Rattle.mls_slot.proofs.disk_calls.write_slot.Goals as goal
 
 pub returns-in_err-write_at-clause-moments : goal.returns-in_err-write_at-clause-moments
 returns-in_err-write_at-clause-moments g c = λ t rest.

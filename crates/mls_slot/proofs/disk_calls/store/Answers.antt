@@ -1,10 +1,10 @@
-use Rattle.std.proofs.Common.{ℕ, ◌<◌, ◌^◌, List, length, inl, refl, sym, arith}
+use Rattle.std.proofs.Common.{◌≡◌, ◌≢◌, ℕ, ◌<◌, ◌^◌, List, length, inl, refl, sym, arith}
 use Rattle.std.specs.Int.{w64, to_be_bytes}
 use Rattle.std.proofs.lemmas.Nat.{from_be_bytes-to_be_bytes_8}
 use Rattle.mls_slot.proofs.Moments.{weaker}
 use Rattle.mls_slot.proofs.Writes.{along}
 use Rattle.mls_slot.proofs.Storing.{Gives, filling, opening, kept, new_head, stored}
-use Rattle.mls_slot.proofs.steps.store.Goals as goal
+use Rattle.mls_slot.proofs.disk_calls.store.Goals as goal
 
 pub returns-in_err-shut_gate-clause-moments : goal.returns-in_err-shut_gate-clause-moments
 returns-in_err-shut_gate-clause-moments g c = λ t.
@@ -69,3 +69,24 @@ returns-clause-stores g c = λ t0.
     let same = kept old _ _ n p target shuts shutting b refl codes _ settled _ done in
     let head = new_head old _ _ n p target shuts shutting b refl codes _ settled _ done in
     stored old _ _ n p target shuts shutting b refl codes _ settled _ done c.with.result (c.with.ensures old.seen (g.D.Disk.view c.write_gate.new.disk).seen known head same)
+
+pub returns-clause-first : goal.returns-clause-first
+returns-clause-first g c = λ t0 none.
+    let old = g.D.Disk.view c.args.disk.now in
+    let p = c.args.payload.now in
+    let bound : length p < 2 ^ 64 = omega arith in
+    let n = c.target-area.result.1 in
+    let b : List ℕ = to_be_bytes w64 (length p) in
+    let codes = from_be_bytes-to_be_bytes_8 (length p) bound in
+    let t1 = along _ _ (sym c.in_ok-shut_gate.ensures.tells) t0 in
+    let t2 = along _ _ (sym c.in_ok-write_slot.ensures.tells) t1 in
+    let known = (c.requires.known t0).heads in
+    let target = c.target-area.ensures.target old.seen known in
+    let shuts = c.in_ok-shut_gate.ensures.shuts t0 in
+    let shutting = c.in_ok-shut_gate.ensures.moments t1 n target in
+    let settled = c.in_ok-write_slot.ensures.settled t1 shuts.rest in
+    let done = c.in_ok-write_gate.ensures.settled t2 settled.rest in
+    let zero : c.target-area.result.0 ≡ 0 = c.target-area.ensures.first old.seen known none in
+    let second : 1 < 2 = omega arith in
+    let apart : 1 ≢ c.target-area.result.0 = omega (arith, zero) in
+    kept old _ _ n p target shuts shutting b refl codes _ settled _ done 1 second apart

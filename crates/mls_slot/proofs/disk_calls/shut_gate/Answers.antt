@@ -4,7 +4,7 @@ use Rattle.mls_slot.proofs.Moments.{started, weaker}
 use Rattle.mls_slot.proofs.Writes.{along}
 use Rattle.mls_slot.proofs.Crash.{shutting_keeps}
 use Rattle.mls_slot.proofs.Storing.{rest_value}
-use Rattle.mls_slot.proofs.steps.shut_gate.Goals as goal
+use Rattle.mls_slot.proofs.disk_calls.shut_gate.Goals as goal
 
 pub returns-then-head-clause-moments : goal.returns-then-head-clause-moments
 returns-then-head-clause-moments g c = λ t n target.
