@@ -1,5 +1,5 @@
 -- What a command answers, from how its inputs were loaded and its text was written.
-use Rattle.std.proofs.Common.{◌≡◌, ℕ, List, Option, Some, None, Result, Ok, Err, refl, sym, subst}
+use Rattle.std.proofs.Common.{◌≡◌, ℕ, List, Option, Result, Ok, Err, refl, sym, subst}
 use Rattle.mls_base.specs.Told.{Names, Rose}
 use Rattle.mls_launch.specs.Writing.{WritesOut}
 use Rattle.mls_launch.specs.declared.faults.OutFault.{OutFault}

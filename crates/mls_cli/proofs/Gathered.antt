@@ -1,5 +1,5 @@
 -- What a gathering output tells after one more piece.
-use Rattle.std.proofs.Common.{◌≡◌, ℕ, ◌==◌, true, false, cond, List, take, Option, Some, None, is_some, Global, refl, sym, ap, inl, inr, true≢false}
+use Rattle.std.proofs.Common.{◌≡◌, ℕ, ◌==◌, List, take, Option, Some, None, is_some, Global, refl, sym, ap, inl, inr, true≢false}
 use Rattle.std.proofs.lemmas.Bool.{cases_Bool}
 use Rattle.std.specs.Io.Buffered.{writer_buffer, writer_contents, writer_inner}
 use Rattle.std.specs.Io.KnownBytes.{Appends, append_known}

@@ -72,13 +72,7 @@ fn answer(rt: &HostRuntime, alloc: Global) -> Result<Status, Status> {
     let Ok(keepers) = checkpoint_stores(rt, alloc) else {
         return Err(Status::Memory);
     };
-    Ok(run_over(
-        alloc,
-        words.as_slice(),
-        &mut files,
-        &mut out,
-        keepers,
-    ))
+    Ok(run_over(alloc, words.as_slice(), &mut files, &mut out, keepers))
 }
 
 /// The whole program: carries out the command of its words over the files of the system and standard output, prints the reason

@@ -16,9 +16,9 @@ const STUDY: &[u8] =
 
 // Group 0 with samples 1, 3, 3 and group 1 with samples 5, 1, 1, in the only lane.
 const TAPE: &[u8] = &[
-    77, 84, 65, 80, 0, 1, 0, 0, 0, 1, 0, 0, 0, 0, 0, 0, 70, 0, 0, 0, 31, 1, 0, 0, 0, 1, 0, 0, 0, 0, 0, 0,
-    0, 0, 0, 0, 0, 3, 0, 0, 0, 0, 0, 0, 0, 1, 0, 1, 0, 3, 0, 3, 0, 0, 0, 31, 1, 0, 0, 0, 1, 0, 0, 0, 1, 0,
-    0, 0, 0, 0, 0, 0, 3, 0, 0, 0, 0, 0, 0, 0, 1, 0, 5, 0, 1, 0, 1,
+    77, 84, 65, 80, 0, 1, 0, 0, 0, 1, 0, 0, 0, 0, 0, 0, 70, 0, 0, 0, 31, 1, 0, 0, 0, 1, 0, 0, 0, 0,
+    0, 0, 0, 0, 0, 0, 0, 3, 0, 0, 0, 0, 0, 0, 0, 1, 0, 1, 0, 3, 0, 3, 0, 0, 0, 31, 1, 0, 0, 0, 1,
+    0, 0, 0, 1, 0, 0, 0, 0, 0, 0, 0, 3, 0, 0, 0, 0, 0, 0, 0, 1, 0, 5, 0, 1, 0, 1,
 ];
 
 const TEXT: &[u8] =
@@ -112,6 +112,8 @@ fn more_than_is_gathered_is_written(rt: HostRuntime) {
 #[test]
 fn faults_of_the_outside_have_texts(rt: HostRuntime) {
     let alloc = rt.alloc();
-    let printed = format!(in alloc; "{}, {}", Status::WriteFault, Status::Memory).expect(&rt, "memory");
+    let printed = format!(in alloc; "{}, {}", Status::WriteFault, Status::Memory).expect(
+        &rt, "memory",
+    );
     assert!(rt; printed.as_str() == "cannot write, out of memory");
 }

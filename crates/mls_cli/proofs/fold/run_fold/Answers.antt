@@ -1,5 +1,4 @@
 -- What a fold answers is right.
-use Rattle.mls_model.specs.ResultText.{result_text}
 use Rattle.mls_cli.proofs.Carrying.{carried_refused, no_usage}
 use Rattle.mls_cli.proofs.Folded.{carried_fold}
 use Rattle.mls_cli.proofs.fold.run_fold.Goals as goal

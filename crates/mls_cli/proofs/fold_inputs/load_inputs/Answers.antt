@@ -1,13 +1,8 @@
 -- The study, the tape and the schedule, one after another.
-use Rattle.std.proofs.Common.{◌≡◌, ℕ, List, Ok, refl, subst}
+use Rattle.std.proofs.Common.{refl}
 use Rattle.std.proofs.lemmas.Result.{err_from_is_err_and}
-use Rattle.mls_base.specs.Told.{Names}
-use Rattle.mls_model.specs.Lanes.{Lane}
 use Rattle.mls_model.specs.ResultText.{result_text}
-use Rattle.mls_model.specs.Studies.{Study}
-use Rattle.mls_cli.specs.Inputs.{◌>>=◌}
-use Rattle.mls_cli.specs.Fold.{right_lanes, right_orders, right_fold}
-use Rattle.mls_cli.specs.Refusals.{Loads}
+use Rattle.mls_cli.specs.Fold.{right_fold}
 use Rattle.mls_cli.proofs.InputSteps.{loads_as, loads_refused, loads_then}
 use Rattle.mls_cli.proofs.fold_inputs.load_inputs.Goals as goal
 
