@@ -4,3 +4,5 @@ pub mod Grid
 pub mod Kept
 pub mod Added
 pub mod Zeros
+pub mod Walks
+pub mod Behind

@@ -9,14 +9,14 @@ use Rattle.mls_model.specs.Samples.{shifted, unshifted}
 use Rattle.mls_model.specs.Statistics.{outputs}
 use Rattle.mls_field.specs.ShiftedRows.{shifted_row, row_in, shifted_outputs}
 
-length-below : (n : ℕ) → length (below n) ≡ n
+pub length-below : (n : ℕ) → length (below n) ≡ n
 length-below zero = refl
 length-below (suc n) = omega (arith, length-append (below n) (n ∷ []), length-below n)
 
 pub length-shifted_row : (signed : Bool) (n : ℕ) (sample : ℕ → ℕ → ℕ) (place : ℕ) → length (shifted_row signed n sample place) ≡ n
 length-shifted_row signed n sample place = length-map (below n) (λ row. shifted signed (sample row place)) ∙ length-below n
 
-entry_of : (f : ℕ → ℕ) (n i : ℕ) → i < n → get_or (map f (below n)) i 0 ≡ f i
+pub entry_of : (f : ℕ → ℕ) (n i : ℕ) → i < n → get_or (map f (below n)) i 0 ≡ f i
 entry_of f zero i h = absurd (omega arith)
 entry_of f (suc n) i h =
     let size : length (map f (below n)) ≡ n = length-map (below n) f ∙ length-below n in
@@ -35,7 +35,7 @@ length-row_in n samples place = length-map (below n) (λ row. slice_index sample
 pub entry-row_in : (n : ℕ) (samples : List ℕ) (place i : ℕ) → i < n → get_or (row_in n samples place) i 0 ≡ slice_index samples (place + 32 * i)
 entry-row_in n samples place i h = entry_of (λ row. slice_index samples (place + 32 * row)) n i h
 
-same_entries : (f g : ℕ → ℕ) (n : ℕ) → ((i : ℕ) → i < n → f i ≡ g i) → map f (below n) ≡ map g (below n)
+pub same_entries : (f g : ℕ → ℕ) (n : ℕ) → ((i : ℕ) → i < n → f i ≡ g i) → map f (below n) ≡ map g (below n)
 same_entries f g zero h = refl
 same_entries f g (suc n) h =
     map-append f (below n) (n ∷ []) ∙

@@ -4,3 +4,7 @@ pub mod Kept
 pub mod Kinds
 pub mod ShiftedRows
 pub mod Stands
+pub mod ColumnSums
+pub mod Gathered
+pub mod Walk
+pub mod OutputSteps

@@ -3,6 +3,7 @@
 
 mod blocks;
 mod cells;
+mod columns;
 pub mod field;
 pub mod fold;
 #[cfg(test)]
