@@ -1,9 +1,7 @@
 pub mod Cells
 pub mod Fields
-pub mod Kept
 pub mod Kinds
 pub mod ShiftedRows
-pub mod Stands
 pub mod ColumnSums
 pub mod Gathered
 pub mod Walk

@@ -1,0 +1,54 @@
+//! Rows that wait to be added: how they are put there, and how one is added to the numbers of a single cell.
+
+ghost use Rattle.std.specs.Prelude.{◌≡◌, ℕ, ◌+◌, ◌*◌, ◌^◌, ◌<◌, ◌≤◌, length, slice_index};
+ghost use Rattle.mls_model.specs.Samples.{shifted};
+ghost use Rattle.mls_field.specs.ColumnSums.{sums_size, of_column, sums_step, IsWithin};
+ghost use Rattle.mls_field.specs.Gathered.{row_behind};
+ghost use Rattle.mls_field.specs.OutputSteps.{ends_step, numbers_step};
+
+use crate::columns::{Column, column_of};
+use mls_base::rows::Rows;
+use mls_base::shape::Shape;
+
+/// The shifted value of a sample.
+fn shifted_value(signed: bool, sample: u16) -> u16
+    ensures { result ≡ shifted signed sample }
+{
+    let shift = if signed { 32768 } else { 0 };
+    sample.wrapping_add(shift)
+}
+
+// Puts the shifted values of a row of a block into a list from `at` on.
+fn gather_row<R: Rows>(samples: &mut [u16], at: usize, signed: bool, rows: &R, row: u32)
+    requires row { row < R.row_count rows.now }
+    requires size { at + R.place_count rows.now ≤ length samples.old }
+    ensures values { (i : ℕ) → i < R.place_count rows.now → slice_index samples.new (at + i) ≡ shifted signed (R.sample rows.now row i) }
+    ensures before { (j : ℕ) → j < at → slice_index samples.new j ≡ slice_index samples.old j }
+    ensures behind { (j : ℕ) → at + R.place_count rows.now ≤ j → slice_index samples.new j ≡ slice_index samples.old j }
+{
+    for place in 0..rows.cells() {
+        samples[at + place as usize] = shifted_value(signed, rows.at(row, place));
+    }
+}
+
+/// Puts the shifted values of a block into a list from `start` on, row after row.
+pub(crate) fn gather<R: Rows>(samples: &mut [u16], start: usize, signed: bool, rows: &R)
+    requires size { start + R.row_count rows.now * R.place_count rows.now ≤ length samples.old }
+    ensures values { (r i : ℕ) → r < R.row_count rows.now → i < R.place_count rows.now → slice_index samples.new (start + r * R.place_count rows.now + i) ≡ shifted signed (R.sample rows.now r i) }
+    ensures before { (j : ℕ) → j < start → slice_index samples.new j ≡ slice_index samples.old j }
+    ensures behind { (j : ℕ) → start + R.row_count rows.now * R.place_count rows.now ≤ j → slice_index samples.new j ≡ slice_index samples.old j }
+{
+    let places = rows.cells() as usize;
+    for row in 0..rows.rows() {
+        gather_row(samples, start + row as usize * places, signed, rows, row);
+    }
+}
+
+/// A row that waits: its samples are each `places` apart, the first at `at`.
+fn sample_at(samples: &[u16], at: usize, places: usize, r: usize) -> u64
+    requires { at + r * places < length samples.now }
+    ensures value { result ≡ slice_index samples.now (at + r * places) }
+    ensures small { result ≤ 65535 }
+{
+    samples[at + r * places] as u64
+}
