@@ -4,3 +4,7 @@ pub mod Walks
 pub mod Behind
 pub mod ColumnPlaces
 pub mod OneRow
+pub mod WholeCells
+pub mod ThreeKinds
+pub mod InPlace
+pub mod Growing

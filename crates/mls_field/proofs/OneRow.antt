@@ -145,7 +145,7 @@ ends_hold old new row steps small rows h =
       greatest = ap pos steps.greatest ∙ most_push (max (slice_index old 1) a) (shifted_outputs rows ++ a ∷ []) b (most_push (slice_index old 1) (shifted_outputs rows) a h.greatest);
     })
 
-get_or-beyond : (xs : List ℕ) (k : ℕ) → length xs ≤ k → slice_index xs k ≡ 0
+pub get_or-beyond : (xs : List ℕ) (k : ℕ) → length xs ≤ k → slice_index xs k ≡ 0
 get_or-beyond [] k h = refl
 get_or-beyond (x ∷ xs) zero h = absurd (omega (arith, h))
 get_or-beyond (x ∷ xs) (suc k) h = get_or-beyond xs k (omega (arith, h))

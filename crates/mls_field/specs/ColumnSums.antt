@@ -56,3 +56,11 @@ most_before (Products x y) = 9223372036854775807
 most_before (Cubes x) = 281462092005375 * 65527
 most_before LowFourths = 9223372036854775807
 most_before HighFourths = 9223372036854775807
+
+-- how much a row adds to a sum at most
+abbrev pub most_added : Column → ℕ
+most_added (Samples x) = 8589934590
+most_added (Products x y) = 8589934590
+most_added (Cubes x) = 281462092005375
+most_added LowFourths = 8589934590
+most_added HighFourths = 8589934590

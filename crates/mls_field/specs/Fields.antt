@@ -42,6 +42,7 @@ pub record IsField (s : Sizes) (rank places : ℕ) (counts waiting sums ends num
   pub few_wait : (plane : ℕ) → slice_index waiting plane ≤ 7
   pub given : (plane : ℕ) → slice_index waiting plane ≤ slice_index counts plane
   pub room : length samples ≡ planes s * (8 * ((s.parameters + 2) * places))
+  pub small : (i : ℕ) → slice_index samples i ≤ 65535
   pub sums_in : IsPart (SumsWithin s.parameters) (sums_size s.parameters) (planes s) places (added_of counts waiting) sums
   pub extrema_in : IsPart ExtremaWithin 2 (planes s) places (added_of counts waiting) ends
   pub numbers_in : IsPart NumbersWithin (length s.thresholds) (planes s) places (added_of counts waiting) numbers

@@ -6,3 +6,4 @@ pub mod ColumnSums
 pub mod Gathered
 pub mod Walk
 pub mod OutputSteps
+pub mod OneCell

@@ -43,12 +43,3 @@ pub(crate) fn gather<R: Rows>(samples: &mut [u16], start: usize, signed: bool, r
         gather_row(samples, start + row as usize * places, signed, rows, row);
     }
 }
-
-/// A row that waits: its samples are each `places` apart, the first at `at`.
-fn sample_at(samples: &[u16], at: usize, places: usize, r: usize) -> u64
-    requires { at + r * places < length samples.now }
-    ensures value { result ≡ slice_index samples.now (at + r * places) }
-    ensures small { result ≤ 65535 }
-{
-    samples[at + r * places] as u64
-}
