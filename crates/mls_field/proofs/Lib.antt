@@ -8,3 +8,5 @@ pub mod WholeCells
 pub mod ThreeKinds
 pub mod InPlace
 pub mod Growing
+pub mod Rooms
+pub mod Fronts

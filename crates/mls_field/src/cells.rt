@@ -5,7 +5,7 @@ ghost use Rattle.mls_field.specs.Cells.{with_rows};
 ghost use Rattle.mls_field.specs.ColumnSums.{sums_size, of_column, column_at, sums_step, IsWithin, most_added};
 ghost use Rattle.mls_field.specs.Gathered.{row_behind};
 ghost use Rattle.mls_field.specs.Kinds.{SumsWithin};
-ghost use Rattle.mls_field.specs.OneCell.{IsRowAt, SameFront, Stepped};
+ghost use Rattle.mls_field.specs.OneCell.{IsRowAt, SameFront, Stepped, HasRoomFor};
 ghost use Rattle.mls_field.specs.OutputSteps.{ends_step, numbers_step};
 
 use crate::columns::{Column, column_of};
@@ -45,4 +45,88 @@ fn add_row(sums: &mut [u64], parameters: u32, samples: &[u16], at: usize, places
         let column = column_of(parameters, c);
         sums[c] += addend(column, parameters, samples, at, places);
     }
+}
+
+/// Adds the rows that wait for a cell to its sums.
+fn add_rows_to_sums(sums: &mut [u64], parameters: u32, samples: &[u16], start: usize, places: usize, place: usize, waiting: u32)
+    requires few { parameters ≤ 16 }
+    requires size { sums_size parameters ≤ length sums.old }
+    requires waiting { waiting ≤ 7 }
+    requires place { place < places }
+    requires samples { start + (parameters + 2) * places * 8 ≤ length samples.now }
+    requires room { HasRoomFor (SumsWithin parameters) waiting sums.old }
+    ensures range { (count : ℕ) → SumsWithin parameters count sums.old → SumsWithin parameters (count + waiting) sums.new }
+    ensures whole { (cell : List ℕ) → length cell ≡ sums_size parameters → SameFront (sums_size parameters) sums.old cell → SameFront (sums_size parameters) sums.new (with_rows (sums_step parameters) (row_behind (parameters + 2) places samples.now start place) waiting cell) }
+{
+    let stride = (parameters as usize + 2) * places;
+    for g in 0..waiting {
+        add_row(sums, parameters, samples, g as usize * stride + start + place, places);
+    }
+}
+
+/// Adds the rows that wait for a cell to its least and greatest samples.
+fn add_rows_to_ends(ends: &mut [u16], parameters: u32, samples: &[u16], start: usize, places: usize, place: usize, waiting: u32)
+    requires few { parameters ≤ 16 }
+    requires size { length ends.old ≡ 2 }
+    requires waiting { waiting ≤ 7 }
+    requires place { place < places }
+    requires samples { start + (parameters + 2) * places * 8 ≤ length samples.now }
+    ensures whole { (cell : List ℕ) → length cell ≡ 2 → SameFront 2 ends.old cell → SameFront 2 ends.new (with_rows ends_step (row_behind (parameters + 2) places samples.now start place) waiting cell) }
+{
+    let stride = (parameters as usize + 2) * places;
+    for g in 0..waiting {
+        let at = g as usize * stride + start + place;
+        add_pair_to_ends(ends, samples[at], samples[at + places]);
+    }
+}
+
+fn add_pair_to_ends(ends: &mut [u16], a: u16, b: u16)
+    requires { length ends.old ≡ 2 }
+    ensures { (row : List ℕ) → slice_index row 0 ≡ a → slice_index row 1 ≡ b → Stepped ends_step 2 row ends.old ends.new }
+{
+    ends[0] = ends[0].min(a).min(b);
+    ends[1] = ends[1].max(a).max(b);
+}
+
+fn add_pair_to_numbers(numbers: &mut [u32], shape: &Shape, a: u16, b: u16)
+    requires size { length numbers.old ≡ length shape.now.thresholds }
+    requires room { (c : ℕ) → c < length shape.now.thresholds → slice_index numbers.old c ≤ 131068 }
+    ensures { (row : List ℕ) → slice_index row 0 ≡ a → slice_index row 1 ≡ b → Stepped (numbers_step shape.now.thresholds) (length shape.now.thresholds) row numbers.old numbers.new }
+{
+    for c in 0..shape.thresholds() {
+        let threshold = shape.threshold(c);
+        let more = one_if_above(a, threshold) + one_if_above(b, threshold);
+        numbers[c as usize] += more;
+    }
+}
+
+/// Adds the rows that wait for a cell to its numbers above thresholds.
+fn add_rows_to_numbers(numbers: &mut [u32], shape: &Shape, samples: &[u16], start: usize, places: usize, place: usize, waiting: u32)
+    requires size { length numbers.old ≡ length shape.now.thresholds }
+    requires waiting { waiting ≤ 7 }
+    requires place { place < places }
+    requires samples { start + (shape.now.parameters + 2) * places * 8 ≤ length samples.now }
+    requires room { (c : ℕ) → slice_index numbers.old c + 2 * waiting ≤ 131070 }
+    ensures whole { (cell : List ℕ) → length cell ≡ length shape.now.thresholds → SameFront (length shape.now.thresholds) numbers.old cell → SameFront (length shape.now.thresholds) numbers.new (with_rows (numbers_step shape.now.thresholds) (row_behind (shape.now.parameters + 2) places samples.now start place) waiting cell) }
+{
+    let stride = (shape.parameters() as usize + 2) * places;
+    for g in 0..waiting {
+        let at = g as usize * stride + start + place;
+        add_pair_to_numbers(numbers, shape, samples[at], samples[at + places]);
+    }
+}
+
+/// The sums of a cell as they stand in their columns, in the front of an array.
+fn read_sums(words: &[u64], row: usize, size: usize, places: usize, place: usize) -> [u64; MOST_SUMS]
+    requires size { size ≤ 72 }
+    requires place { place < places }
+    requires row { row + size < 2 ^ 63 }
+    requires words { (row + size) * places ≤ length words.now }
+    ensures { (c : ℕ) → c < size → slice_index result c ≡ slice_index words.now ((row + c) * places + place) }
+{
+    let mut sums = [0; MOST_SUMS];
+    for c in 0..size {
+        sums[c] = words[(row + c) * places + place];
+    }
+    sums
 }
