@@ -34,3 +34,10 @@ front_more step size row g cell old new long same stepped = record {
       stepped.each c h ∙ (ap (step c (row g)) (same.each c h) ∙
       (sym (entry-with_row step (row g) (with_rows step row g cell) c (omega (arith, h, long, length-with_rows step row g cell))) ∙ ap (λ (xs : List ℕ). slice_index xs c) (sym (rows_more step row g cell))));
 }
+
+-- the samples A and B of a row
+pub first_at : (n places : ℕ) (samples : List ℕ) (start place g : ℕ) → 0 < n → slice_index (row_behind n places samples start place g) 0 ≡ slice_index samples (g * (n * places) + start + place)
+first_at n places samples start place g h = (row_at n places samples start place g).each 0 h ∙ ap (slice_index samples) (let e : g * (n * places) + start + place + 0 * places ≡ g * (n * places) + start + place = omega arith in e)
+
+pub second_at : (n places : ℕ) (samples : List ℕ) (start place g : ℕ) → 1 < n → slice_index (row_behind n places samples start place g) 1 ≡ slice_index samples (g * (n * places) + start + place + places)
+second_at n places samples start place g h = (row_at n places samples start place g).each 1 h ∙ ap (slice_index samples) (let e : g * (n * places) + start + place + 1 * places ≡ g * (n * places) + start + place + places = omega arith in e)

@@ -106,7 +106,7 @@ fn add_rows_to_numbers(numbers: &mut [u32], shape: &Shape, samples: &[u16], star
     requires waiting { waiting ≤ 7 }
     requires place { place < places }
     requires samples { start + (shape.now.parameters + 2) * places * 8 ≤ length samples.now }
-    requires room { (c : ℕ) → slice_index numbers.old c + 2 * waiting ≤ 131070 }
+    requires room { (c : ℕ) → c < length shape.now.thresholds → slice_index numbers.old c + 2 * waiting ≤ 131070 }
     ensures whole { (cell : List ℕ) → length cell ≡ length shape.now.thresholds → SameFront (length shape.now.thresholds) numbers.old cell → SameFront (length shape.now.thresholds) numbers.new (with_rows (numbers_step shape.now.thresholds) (row_behind (shape.now.parameters + 2) places samples.now start place) waiting cell) }
 {
     let stride = (shape.parameters() as usize + 2) * places;
