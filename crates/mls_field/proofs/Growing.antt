@@ -104,13 +104,13 @@ module _ (step : ℕ → List ℕ → ℕ → ℕ) (size places n plane w : ℕ)
         others numbers other place apart here (slice_index waiting other) (waits.few other));
   }
 
-pub part_grows : (within : ℕ → List ℕ → Type 0) (holds : List ℕ → List (List ℕ) → Type 0) (step : ℕ → List ℕ → ℕ → ℕ) (size n planes places plane : ℕ) (old new : ℕ → ℕ → List ℕ) (row : ℕ → List ℕ) (t : Table) → IsKind within holds step size n → ((place : ℕ) → length (old plane place) ≡ size) → ((place : ℕ) → IsRow n (row place)) → Grows step places plane old new row → HoldsPart holds planes places old t → HoldsPart holds planes places new (with_block t plane places row)
+pub part_grows : (within : ℕ → List ℕ → Type 0) (holds : List ℕ → List (List ℕ) → Type 0) (step : ℕ → List ℕ → ℕ → ℕ) (size n planes places plane : ℕ) (old new : ℕ → ℕ → List ℕ) (row : ℕ → List ℕ) (t : Table) → IsKind within holds step size n → ((place : ℕ) → length (old plane place) ≡ size) → ((place : ℕ) → place < places → IsRow n (row place)) → Grows step places plane old new row → HoldsPart holds planes places old t → HoldsPart holds planes places new (with_block t plane places row)
 part_grows within holds step size n planes places plane old new row t kind long rows grows part = record {
   each = λ p place p_in here. elim (cases_order p plane) [
       | inl same ↦ subst (λ (q : ℕ). holds (new q place) (with_block t plane places row q place)) (sym same)
           (subst (λ (rs : List (List ℕ)). holds (new plane place) rs) (sym (with_block_there t plane places row place here))
           (subst (λ (xs : List ℕ). holds xs (t plane place ++ row place ∷ [])) (sym (grows.there place here))
-          (kind.adds (old plane place) (row place) (long place) (rows place) (t plane place) (part.each plane place (subst (λ (q : ℕ). q < planes) same p_in) here))))
+          (kind.adds (old plane place) (row place) (long place) (rows place here) (t plane place) (part.each plane place (subst (λ (q : ℕ). q < planes) same p_in) here))))
       | inr (inl low) ↦ other p place p_in here (λ e. absurd (omega (arith, e, low)))
       | inr (inr high) ↦ other p place p_in here (λ e. absurd (omega (arith, e, high)))
     ];

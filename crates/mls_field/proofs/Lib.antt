@@ -10,3 +10,4 @@ pub mod InPlace
 pub mod Growing
 pub mod Rooms
 pub mod Fronts
+pub mod Added

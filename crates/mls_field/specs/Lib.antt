@@ -7,3 +7,5 @@ pub mod Gathered
 pub mod Walk
 pub mod OutputSteps
 pub mod OneCell
+pub mod Kept
+pub mod Stands

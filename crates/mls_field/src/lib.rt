@@ -3,6 +3,8 @@
 
 mod cells;
 mod columns;
+mod ends;
+pub mod field;
 pub mod fold;
 mod gathered;
 
