@@ -119,3 +119,27 @@ part_grows within holds step size n planes places plane old new row t kind long 
     other : (p place : ℕ) → p < planes → place < places → p ≢ plane → holds (new p place) (with_block t plane places row p place)
     other p place p_in here apart =
         subst (λ (rs : List (List ℕ)). holds (new p place) rs) (sym (with_block_elsewhere t plane places row p place apart)) (subst (λ (xs : List ℕ). holds xs (t p place)) (sym (grows.elsewhere p place apart here)) (part.each p place p_in here))
+
+-- a row that waits lies within a plane's samples, and these within all samples
+pub row_fits : (q places plane v count : ℕ) → plane < count → v < 8 → plane * (8 * (q * places)) + v * (q * places) + q * places ≤ count * (8 * (q * places))
+row_fits q places plane v count inside low =
+    let a = plane_before v 8 (q * places) low in
+    let b = plane_before plane count (8 * (q * places)) inside in
+    omega (arith, a, b)
+
+-- the samples where the code has put a block
+pub gathered_block : (n n' n'' places places' plane w : ℕ) (signed signed' : Bool) (given : ℕ → ℕ → ℕ) (items held new now : List ℕ) → n' ≡ n → n'' ≡ n → places' ≡ places → signed' ≡ signed → held ≡ items → now ≡ new
+    → ((r i : ℕ) → r < n' → i < places' → slice_index new (plane * (8 * (n'' * places)) + w * (n'' * places) + r * places' + i) ≡ shifted signed' (given r i))
+    → ((j : ℕ) → j < plane * (8 * (n'' * places)) + w * (n'' * places) → slice_index new j ≡ slice_index held j)
+    → ((j : ℕ) → plane * (8 * (n'' * places)) + w * (n'' * places) + n' * places' ≤ j → slice_index new j ≡ slice_index held j)
+    → IsGathered n places plane w signed given items now
+gathered_block n n' n'' places places' plane w signed signed' given items held new now a b c d e f values before behind = record {
+  values = λ r i r_in i_in.
+      ap (λ (xs : List ℕ). slice_index xs (plane_start n places plane + w * (n * places) + r * places + i)) f ∙
+      (ap (slice_index new) (let at : plane_start n places plane + w * (n * places) + r * places + i ≡ plane * (8 * (n'' * places)) + w * (n'' * places) + r * places' + i = rw (b, c) (omega arith) in at) ∙
+      (values r i (omega (arith, a, r_in)) (omega (arith, c, i_in)) ∙ ap (λ (s : Bool). shifted s (given r i)) d));
+  before = λ j low.
+      ap (λ (xs : List ℕ). slice_index xs j) f ∙ (before j (rw b low) ∙ ap (λ (xs : List ℕ). slice_index xs j) e);
+  behind = λ j high.
+      ap (λ (xs : List ℕ). slice_index xs j) f ∙ (behind j (rw (a, b, c) high) ∙ ap (λ (xs : List ℕ). slice_index xs j) e);
+}

@@ -22,6 +22,7 @@ fn shifted_value(signed: bool, sample: u16) -> u16
 fn gather_row<R: Rows>(samples: &mut [u16], at: usize, signed: bool, rows: &R, row: u32)
     requires row { row < R.row_count rows.now }
     requires size { at + R.place_count rows.now ≤ length samples.old }
+    ensures small { ((i : ℕ) → slice_index samples.old i ≤ 65535) → (i : ℕ) → slice_index samples.new i ≤ 65535 }
     ensures values { (i : ℕ) → i < R.place_count rows.now → slice_index samples.new (at + i) ≡ shifted signed (R.sample rows.now row i) }
     ensures before { (j : ℕ) → j < at → slice_index samples.new j ≡ slice_index samples.old j }
     ensures behind { (j : ℕ) → at + R.place_count rows.now ≤ j → slice_index samples.new j ≡ slice_index samples.old j }
@@ -34,6 +35,7 @@ fn gather_row<R: Rows>(samples: &mut [u16], at: usize, signed: bool, rows: &R, r
 /// Puts the shifted values of a block into a list from `start` on, row after row.
 pub(crate) fn gather<R: Rows>(samples: &mut [u16], start: usize, signed: bool, rows: &R)
     requires size { start + R.row_count rows.now * R.place_count rows.now ≤ length samples.old }
+    ensures small { ((i : ℕ) → slice_index samples.old i ≤ 65535) → (i : ℕ) → slice_index samples.new i ≤ 65535 }
     ensures values { (r i : ℕ) → r < R.row_count rows.now → i < R.place_count rows.now → slice_index samples.new (start + r * R.place_count rows.now + i) ≡ shifted signed (R.sample rows.now r i) }
     ensures before { (j : ℕ) → j < start → slice_index samples.new j ≡ slice_index samples.old j }
     ensures behind { (j : ℕ) → start + R.row_count rows.now * R.place_count rows.now ≤ j → slice_index samples.new j ≡ slice_index samples.old j }
