@@ -15,9 +15,10 @@ use Rattle.mls_field.specs.ShiftedRows.{shifted_row}
 use Rattle.mls_field.specs.Gathered.{waiting_row}
 use Rattle.mls_field.proofs.Rows.{all_push, length-shifted_row}
 use Rattle.mls_field.proofs.Grid.{with_block_there, with_block_elsewhere}
-use Rattle.mls_field.proofs.WholeCells.{IsRow, length-cell, length-with_rows}
+use Rattle.mls_field.proofs.WholeCells.{IsRow, IsKind, length-cell, length-with_rows, within_rows, cell_walked, cell_elsewhere}
 use Rattle.mls_field.proofs.ThreeKinds.{sums_kind, ends_kind, numbers_kind}
-use Rattle.mls_field.proofs.Growing.{IsGathered, Waits, Grows, waits_more, part_grows, row_is, row_given}
+use Rattle.mls_field.proofs.Growing.{IsGathered, Waits, waits_more, all_added, part_grows, row_is, row_given}
+use Rattle.mls_field.specs.Walk.{Walk}
 
 -- what is said of each plane and place, from what is said of the plane that grew and of the others
 pub each_place : (P : ℕ → ℕ → Type 0) (step : ℕ) → ((place : ℕ) → P step place) → ((plane place : ℕ) → plane ≢ step → P plane place) → (plane place : ℕ) → P plane place
@@ -100,4 +101,68 @@ table_waits s w counts waiting sums ends numbers samples samples' t step n v giv
       sums_of = part_grows (SumsWithin s.parameters) (HoldSums s.parameters) (sums_step s.parameters) (sums_size s.parameters) q (planes s) w step _ _ rows t (sums_kind s.parameters) (λ place. whole_long _ _ _ sums q samples _ step place) (given_is q w step v s.signed given samples samples' gathered small) (waits_more (sums_step s.parameters) (sums_size s.parameters) w q step v s.signed given samples samples' waiting _ gathered v_in sums waits) holds.sums_of;
       extrema_of = part_grows ExtremaWithin HoldExtrema ends_step 2 q (planes s) w step _ _ rows t (ends_kind q) (λ place. whole_long _ _ _ ends q samples _ step place) (given_is q w step v s.signed given samples samples' gathered small) (waits_more ends_step 2 w q step v s.signed given samples samples' waiting _ gathered v_in ends waits) holds.extrema_of;
       numbers_of = part_grows NumbersWithin (HoldNumbers s.thresholds) (numbers_step s.thresholds) (length s.thresholds) q (planes s) w step _ _ rows t (numbers_kind s.thresholds q rises) (λ place. whole_long _ _ _ numbers q samples _ step place) (given_is q w step v s.signed given samples samples' gathered small) (waits_more (numbers_step s.thresholds) (length s.thresholds) w q step v s.signed given samples samples' waiting _ gathered v_in numbers waits) holds.numbers_of;
+    }
+
+-- ---- all rows that wait are added
+settled_count : (counts waiting : List ℕ) (step n : ℕ) → step < length counts → step < length waiting → n ≡ get_or counts step 0 → get_or waiting step 0 ≡ 7 → 7 ≤ n → added_of counts waiting step + 8 ≡ added_of (set counts step (n + 1)) (set waiting step 0) step
+settled_count counts waiting step n fits fits' e f some = omega (arith, get_or-set_same counts step (n + 1) 0 fits, get_or-set_same waiting step 0 0 fits', e, f)
+
+settled_elsewhere : (counts waiting : List ℕ) (step n p : ℕ) → p ≢ step → added_of (set counts step (n + 1)) (set waiting step 0) p ≡ added_of counts waiting p
+settled_elsewhere counts waiting step n p apart = omega (arith, get_or-set_other counts step p (n + 1) 0 apart, get_or-set_other waiting step p 0 0 apart)
+
+part_settled : (within : ℕ → List ℕ → Type 0) (holds : List ℕ → List (List ℕ) → Type 0) (kind : ℕ → List ℕ → ℕ → ℕ) (size q planes w : ℕ) (counts waiting samples' numbers numbers' : List ℕ) (step n : ℕ) → IsKind within holds kind size q → IsPart within size planes w (added_of counts waiting) numbers → step < planes → step < length counts → step < length waiting → n ≡ get_or counts step 0 → get_or waiting step 0 ≡ 7 → 7 ≤ n → ((i : ℕ) → get_or samples' i 0 ≤ 65535) → length numbers' ≡ length numbers → Walk (step * size) size w 0 w numbers numbers' (λ c i g m. kind c (waiting_row q w samples' step i g) m) → IsPart within size planes w (added_of (set counts step (n + 1)) (set waiting step 0)) numbers'
+part_settled within holds kind size q planes w counts waiting samples' numbers numbers' step n is part inside fits fits' e f some small long walk = record {
+  long = long ∙ part.long;
+  range = each_place (λ p place. p < planes → place < w → within (added_of (set counts step (n + 1)) (set waiting step 0) p) (cell_of size w numbers' p place)) step
+      (λ place _ here.
+      subst (λ (m : ℕ). within m (cell_of size w numbers' step place)) (settled_count counts waiting step n fits fits' e f some)
+      (subst (λ (xs : List ℕ). within (added_of counts waiting step + 8) xs) (sym (cell_walked size w step numbers numbers' kind (λ i g. waiting_row q w samples' step i g) walk place here))
+      (within_rows within holds kind size q is (λ g. waiting_row q w samples' step place g) 8 (added_of counts waiting step) (cell_of size w numbers step place) (length-cell size w numbers step place) (λ g. row_is q w samples' step place g small) (part.range step place inside here))))
+      (λ p place apart p_in here.
+      subst (λ (m : ℕ). within m (cell_of size w numbers' p place)) (sym (settled_elsewhere counts waiting step n p apart))
+      (subst (λ (xs : List ℕ). within (added_of counts waiting p) xs) (sym (cell_elsewhere size w step numbers numbers' (λ c i g m. kind c (waiting_row q w samples' step i g) m) walk p place apart here)) (part.range p place p_in here)));
+}
+
+pub field_settled : (s : Sizes) (rank w : ℕ) (counts waiting sums ends numbers samples sums' ends' numbers' samples' : List ℕ) (step n : ℕ) → IsTrue (rises s.thresholds) → IsField s rank w counts waiting sums ends numbers samples → step < planes s → n ≡ get_or counts step 0 → n < 65535 → get_or waiting step 0 ≡ 7 → length samples' ≡ length samples → ((i : ℕ) → get_or samples' i 0 ≤ 65535) → length sums' ≡ length sums → length ends' ≡ length ends → length numbers' ≡ length numbers
+    → Walk (step * sums_size s.parameters) (sums_size s.parameters) w 0 w sums sums' (λ c i g m. sums_step s.parameters c (waiting_row (s.parameters + 2) w samples' step i g) m)
+    → Walk (step * 2) 2 w 0 w ends ends' (λ c i g m. ends_step c (waiting_row (s.parameters + 2) w samples' step i g) m)
+    → Walk (step * length s.thresholds) (length s.thresholds) w 0 w numbers numbers' (λ c i g m. numbers_step s.thresholds c (waiting_row (s.parameters + 2) w samples' step i g) m)
+    → IsField s rank w (set counts step (n + 1)) (set waiting step 0) sums' ends' numbers' samples'
+field_settled s rank w counts waiting sums ends numbers samples sums' ends' numbers' samples' step n rises is within e room f long small la lb ld a b d =
+    let fits : step < length counts = omega (arith, is.each_plane, within) in
+    let fits' : step < length waiting = omega (arith, is.each_waits, within) in
+    let some : 7 ≤ n = omega (arith, is.given step, e, f) in
+    let q = s.parameters + 2 in
+    record {
+      rank_in = is.rank_in;
+      block_width = is.block_width;
+      each_plane = length-set counts step (n + 1) ∙ is.each_plane;
+      each_waits = length-set waiting step 0 ∙ is.each_waits;
+      few = few_added counts step n fits room is.few;
+      few_wait = λ plane. each_place (λ p place. get_or (set waiting step 0) p 0 ≤ 7) step (λ place. omega (arith, get_or-set_same waiting step 0 0 fits')) (λ p place apart. omega (arith, get_or-set_other waiting step p 0 0 apart, is.few_wait p)) plane 0;
+      given = λ plane. each_place (λ p place. get_or (set waiting step 0) p 0 ≤ get_or (set counts step (n + 1)) p 0) step
+          (λ place. omega (arith, get_or-set_same waiting step 0 0 fits'))
+          (λ p place apart. omega (arith, get_or-set_other waiting step p 0 0 apart, get_or-set_other counts step p (n + 1) 0 apart, is.given p)) plane 0;
+      room = long ∙ is.room;
+      small = small;
+      sums_in = part_settled (SumsWithin s.parameters) (HoldSums s.parameters) (sums_step s.parameters) (sums_size s.parameters) q (planes s) w counts waiting samples' sums sums' step n (sums_kind s.parameters) is.sums_in within fits fits' e f some small la a;
+      extrema_in = part_settled ExtremaWithin HoldExtrema ends_step 2 q (planes s) w counts waiting samples' ends ends' step n (ends_kind q) is.extrema_in within fits fits' e f some small lb b;
+      numbers_in = part_settled NumbersWithin (HoldNumbers s.thresholds) (numbers_step s.thresholds) (length s.thresholds) q (planes s) w counts waiting samples' numbers numbers' step n (numbers_kind s.thresholds q rises) is.numbers_in within fits fits' e f some small ld d;
+    }
+
+pub table_settled : (s : Sizes) (w : ℕ) (counts waiting sums ends numbers samples sums' ends' numbers' samples' : List ℕ) (t : Table) (step n : ℕ) (given : ℕ → ℕ → ℕ) → IsTrue (rises s.thresholds) → HoldsTable s w counts waiting sums ends numbers samples t → step < length counts → n ≡ get_or counts step 0 → Waits step 7 0 waiting (set waiting step 0) → IsGathered (s.parameters + 2) w step 7 s.signed given samples samples' → ((i : ℕ) → get_or samples' i 0 ≤ 65535)
+    → Walk (step * sums_size s.parameters) (sums_size s.parameters) w 0 w sums sums' (λ c i g m. sums_step s.parameters c (waiting_row (s.parameters + 2) w samples' step i g) m)
+    → Walk (step * 2) 2 w 0 w ends ends' (λ c i g m. ends_step c (waiting_row (s.parameters + 2) w samples' step i g) m)
+    → Walk (step * length s.thresholds) (length s.thresholds) w 0 w numbers numbers' (λ c i g m. numbers_step s.thresholds c (waiting_row (s.parameters + 2) w samples' step i g) m)
+    → HoldsTable s w (set counts step (n + 1)) (set waiting step 0) sums' ends' numbers' samples' (with_block t step w (shifted_row s.signed (s.parameters + 2) given))
+table_settled s w counts waiting sums ends numbers samples sums' ends' numbers' samples' t step n given rises holds fits e waits gathered small a b d =
+    let q = s.parameters + 2 in
+    let rows = shifted_row s.signed q given in
+    let seven : 7 < 8 = omega arith in
+    record {
+      counted = counted_added (planes s) w counts t step n rows fits e holds.counted;
+      whole = whole_added q (planes s) w t step rows (λ place. length-shifted_row s.signed q given place) holds.whole;
+      sums_of = part_grows (SumsWithin s.parameters) (HoldSums s.parameters) (sums_step s.parameters) (sums_size s.parameters) q (planes s) w step _ _ rows t (sums_kind s.parameters) (λ place. whole_long _ _ _ sums q samples _ step place) (given_is q w step 7 s.signed given samples samples' gathered small) (all_added (sums_step s.parameters) (sums_size s.parameters) w q step 7 s.signed given samples samples' waiting _ gathered seven sums sums' refl waits a) holds.sums_of;
+      extrema_of = part_grows ExtremaWithin HoldExtrema ends_step 2 q (planes s) w step _ _ rows t (ends_kind q) (λ place. whole_long _ _ _ ends q samples _ step place) (given_is q w step 7 s.signed given samples samples' gathered small) (all_added ends_step 2 w q step 7 s.signed given samples samples' waiting _ gathered seven ends ends' refl waits b) holds.extrema_of;
+      numbers_of = part_grows NumbersWithin (HoldNumbers s.thresholds) (numbers_step s.thresholds) (length s.thresholds) q (planes s) w step _ _ rows t (numbers_kind s.thresholds q rises) (λ place. whole_long _ _ _ numbers q samples _ step place) (given_is q w step 7 s.signed given samples samples' gathered small) (all_added (numbers_step s.thresholds) (length s.thresholds) w q step 7 s.signed given samples samples' waiting _ gathered seven numbers numbers' refl waits d) holds.numbers_of;
     }
