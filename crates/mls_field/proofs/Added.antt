@@ -7,7 +7,8 @@ use Rattle.std.proofs.lemmas.List.{length-set, get_or-set_same, get_or-set_other
 use Rattle.mls_model.specs.Studies.{Sizes, planes, rises}
 use Rattle.mls_model.specs.Standing.{Table, with_block}
 use Rattle.mls_field.specs.Cells.{cell_of, whole_cell}
-use Rattle.mls_field.specs.ColumnSums.{sums_size, sums_step}
+use Rattle.mls_field.specs.ColumnSums.{sums_size, sums_step, column_at, most_before}
+use Rattle.mls_field.proofs.Rooms.{sum_small, before_eight}
 use Rattle.mls_field.specs.OutputSteps.{ends_step, numbers_step}
 use Rattle.mls_field.specs.Fields.{IsPart, HoldsPart, IsField, HoldsTable, added_of}
 use Rattle.mls_field.specs.Kinds.{SumsWithin, HoldSums, ExtremaWithin, HoldExtrema, NumbersWithin, HoldNumbers}
@@ -15,7 +16,7 @@ use Rattle.mls_field.specs.ShiftedRows.{shifted_row}
 use Rattle.mls_field.specs.Gathered.{waiting_row}
 use Rattle.mls_field.proofs.Rows.{all_push, length-shifted_row}
 use Rattle.mls_field.proofs.Grid.{with_block_there, with_block_elsewhere}
-use Rattle.mls_field.proofs.WholeCells.{IsRow, IsKind, length-cell, length-with_rows, within_rows, cell_walked, cell_elsewhere}
+use Rattle.mls_field.proofs.WholeCells.{IsRow, IsKind, entry-cell, length-cell, length-with_rows, within_rows, cell_walked, cell_elsewhere}
 use Rattle.mls_field.proofs.ThreeKinds.{sums_kind, ends_kind, numbers_kind}
 use Rattle.mls_field.proofs.Growing.{IsGathered, Waits, waits_more, all_added, part_grows, row_is, row_given}
 use Rattle.mls_field.specs.Walk.{Walk}
@@ -166,3 +167,17 @@ table_settled s w counts waiting sums ends numbers samples sums' ends' numbers' 
       extrema_of = part_grows ExtremaWithin HoldExtrema ends_step 2 q (planes s) w step _ _ rows t (ends_kind q) (λ place. whole_long _ _ _ ends q samples _ step place) (given_is q w step 7 s.signed given samples samples' gathered small) (all_added ends_step 2 w q step 7 s.signed given samples samples' waiting _ gathered seven ends ends' refl waits b) holds.extrema_of;
       numbers_of = part_grows NumbersWithin (HoldNumbers s.thresholds) (numbers_step s.thresholds) (length s.thresholds) q (planes s) w step _ _ rows t (numbers_kind s.thresholds q rises) (λ place. whole_long _ _ _ numbers q samples _ step place) (given_is q w step 7 s.signed given samples samples' gathered small) (all_added (numbers_step s.thresholds) (length s.thresholds) w q step 7 s.signed given samples samples' waiting _ gathered seven numbers numbers' refl waits d) holds.numbers_of;
     }
+
+-- ---- where seven rows wait, there is room for eight
+pub room_for_sums : (s : Sizes) (rank w : ℕ) (counts waiting sums ends numbers samples : List ℕ) (step : ℕ) → IsField s rank w counts waiting sums ends numbers samples → step < planes s → get_or counts step 0 < 65535 → get_or waiting step 0 ≡ 7 → (c i : ℕ) → c < sums_size s.parameters → i < w → get_or sums ((step * sums_size s.parameters + c) * w + i) 0 ≤ most_before (column_at s.parameters c)
+room_for_sums s rank w counts waiting sums ends numbers samples step is inside room f c i c_in here =
+    let p = s.parameters in
+    let m = added_of counts waiting step in
+    let few : m ≤ 65527 = omega (arith, f, room) in
+    let cell = cell_of (sums_size p) w sums step i in
+    let small = sum_small m p cell (is.sums_in.range step i inside here) (omega (arith, few)) c c_in in
+    omega (arith, entry-cell (sums_size p) w sums step i c c_in, small, before_eight m (column_at p c) few)
+
+pub room_for_numbers : (s : Sizes) (rank w : ℕ) (counts waiting sums ends numbers samples : List ℕ) (step : ℕ) → IsField s rank w counts waiting sums ends numbers samples → step < planes s → get_or counts step 0 < 65535 → (c i : ℕ) → c < length s.thresholds → i < w → get_or numbers ((step * length s.thresholds + c) * w + i) 0 ≤ 131070
+room_for_numbers s rank w counts waiting sums ends numbers samples step is inside room c i c_in here =
+    omega (arith, entry-cell (length s.thresholds) w numbers step i c c_in, (is.numbers_in.range step i inside here).few c, room)
