@@ -1,5 +1,5 @@
 -- A piece that covers its block alone completes its key, unless the key is completed.
-use Rattle.std.proofs.Common.{◌≡◌, ℕ, ◌<◌, ◌≤◌, Bool, true, false, not, ◌||◌, cond, List, [], ◌∷◌, Option, Some, None, refl, ap, sym, ◌∙◌, ⊎_elim, subst, arith, IsTrue}
+use Rattle.std.proofs.Common.{◌≡◌, ℕ, ◌<◌, ◌≤◌, Bool, true, false, not, ◌||◌, cond, List, [], ◌∷◌, Option, Some, None, refl, ap, sym, ◌∙◌, ⊎_elim, subst, arith, IsTrue, IsSome}
 use Rattle.std.specs.Option.{is_some}
 use Rattle.std.specs.List.{list_any, list_all, AllByRecursion}
 use Rattle.std.proofs.lemmas.Bool.{cases_Bool, cases_eq, and_from, or_left, or_right, eq-eqb, ltb-true, both_ways, not_from_false}
@@ -13,6 +13,8 @@ use Rattle.mls_base.specs.Partitions.{ArePartition}
 use Rattle.mls_base.proofs.Spans.{bounds, in_span, in_meet, meets_partition, span_end}
 use Rattle.mls_model.specs.Fitting.{Fits}
 use Rattle.mls_assembly.specs.Shares.{Share, share_of, has_all}
+use Rattle.mls_assembly.specs.KeyShares.{KeyShares, share_in}
+use Rattle.mls_assembly.specs.Held.{Held, kept_of, IsPending, ArePending, AreWhole}
 use Rattle.mls_assembly.specs.Pendings.{later_of, greatest_life, PendsAt}
 use Rattle.mls_assembly.proofs.Latest.{reaches, whole_completed}
 use Rattle.mls_assembly.proofs.Taking.{all_below, open_life}
@@ -75,6 +77,28 @@ asked_of_one s rank p t sizes within fit all h =
     (λ some. or_right _ _ (ap t (only_client s rank p client sizes within fit all inside some) ∙ h))
     (λ none. or_left _ _ (not_from_false _ none))
     (cases_Bool (overlaps s rank client)))
+
+-- where a piece covers the block alone, each key that has a share has all
+pub all_whole : (held : Held) (p : Piece) → AreSizes held.sizes → ArePending held → Fits held.sizes held.rank p → p.count ≡ width (block held.sizes held.rank) → AreWhole held
+all_whole held p sizes pending fit whole key = by_cases (kept_of held key) (pending.each key)
+  where
+    there : (o : Option Share) → IsSome o → (share : Share) × (o ≡ Some share)
+    there None h = absurd cc
+    there (Some share) h = (share, refl)
+
+    held_there : (o : Option Share) (share : Share) → o ≡ Some share → is_some o ≡ true
+    held_there None share e = absurd cc
+    held_there (Some x) share e = refl
+
+    by_cases : (o : Option KeyShares) → ((x : KeyShares) → o ≡ Some x → IsPending held.sizes held.rank key x) → IsSome o
+        → has_all held.sizes held.rank (λ client. elim o [ None ↦ None | Some x ↦ share_in x client ]) ≡ true
+    by_cases None each h = absurd cc
+    by_cases (Some x) each h =
+        let is : IsPending held.sizes held.rank key x = each x refl in
+        let found = there (share_in x (is.some.0)) (is.some.2) in
+        let own : is.some.0 ≡ p.client = only_client held.sizes held.rank p (is.some.0) sizes pending.rank_in fit whole (is.some.1) (is.shares.shares (is.some.0) (found.0) (found.1)).some in
+        asked_of_one held.sizes held.rank p (λ client. is_some (share_in x client)) sizes pending.rank_in fit whole
+        (ap (λ c. is_some (share_in x c)) (sym own) ∙ held_there (share_in x (is.some.0)) (found.0) (found.1))
 
 -- no life stands before a piece that covers its block alone
 pub none_before : (s : Sizes) (rank : ℕ) (ps : List Piece) (p : Piece) → AreSizes s → rank < s.ranks → AllByRecursion (Fits s rank) ps → Fits s rank p → p.count ≡ width (block s rank) → is_completed s rank (key_of p) ps ≡ false

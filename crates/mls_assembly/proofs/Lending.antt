@@ -7,7 +7,7 @@ use Rattle.mls_model.specs.Blocks.{block, part, overlap, width, is_in_span, clie
 use Rattle.mls_base.proofs.Spans.{bounds, in_span, in_meet, span_found}
 use Rattle.mls_laws.proofs.OneClient.{IsBlock, is_block}
 use Rattle.mls_assembly.specs.Shares.{Share, IsShare}
-use Rattle.mls_assembly.specs.Open.{OpenKey, share_in, IsOpen}
+use Rattle.mls_assembly.specs.KeyShares.{KeyShares, share_in, AreShares}
 
 pub cell_in_mesh : (s : Sizes) (rank cell : ℕ) (span : Span) → AreSizes s → rank < s.ranks → span ≡ block s rank → cell < width (block s rank) → span.first + cell < s.cells
 cell_in_mesh s rank cell span sizes within is inside =
@@ -19,8 +19,8 @@ pub record IsInShare (s : Sizes) (row x : ℕ) (share : Share) : Type 0 where
   pub within : row * share.count + (x - share.first) < length share.samples
   pub from : share.first ≤ x
 
-pub sample_in : (s : Sizes) (rank row cell client : ℕ) (span : Span) (o : OpenKey) (share : Share) → AreSizes s → rank < s.ranks → span ≡ block s rank → cell < width (block s rank) → row < s.parameters + 2
-    → IsOpen s rank o → client_of s (span.first + cell) ≡ Some client → Some share ≡ share_in o client → IsInShare s row (span.first + cell) share
+pub sample_in : (s : Sizes) (rank row cell client : ℕ) (span : Span) (o : KeyShares) (share : Share) → AreSizes s → rank < s.ranks → span ≡ block s rank → cell < width (block s rank) → row < s.parameters + 2
+    → AreShares s rank o → client_of s (span.first + cell) ≡ Some client → Some share ≡ share_in o client → IsInShare s row (span.first + cell) share
 sample_in s rank row cell client span o share sizes within is inside row_in kept found at =
     let x : ℕ = span.first + cell in
     let in_block : IsTrue (is_in_span (block s rank) (span.first + cell)) = subst (λ (b : Span). IsTrue (is_in_span (block s rank) (b.first + cell))) (sym is) (in_span (block s rank) ((block s rank).first + cell) (omega arith) (omega arith)) in

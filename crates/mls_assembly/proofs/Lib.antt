@@ -3,7 +3,7 @@ pub mod Taking
 pub mod Storing
 pub mod Alone
 pub mod Rows
-pub mod Places
+pub mod MapKeys
 pub mod Wholes
 pub mod Offering
 pub mod Lending

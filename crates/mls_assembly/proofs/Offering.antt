@@ -15,9 +15,9 @@ use Rattle.mls_laws.proofs.Completing.{same_key, own_key}
 use Rattle.mls_assembly.specs.declared.assembled.Assembled.{Assembled}
 use Rattle.mls_assembly.specs.declared.assembled.Assembled.TheVariants as answers
 use Rattle.mls_assembly.specs.Shares.{Share, share_of, IsShare, block_sample, has_all}
-use Rattle.mls_assembly.specs.Open.{OpenKey, share_in}
+use Rattle.mls_assembly.specs.KeyShares.{KeyShares, share_in}
 use Rattle.mls_assembly.specs.Pendings.{PendsAt, Pends, PendsBut}
-use Rattle.mls_assembly.specs.Held.{Held, open_of, life_of, share_at}
+use Rattle.mls_assembly.specs.Held.{Held, kept_of, life_of, share_at}
 use Rattle.mls_assembly.specs.Offered.{outcome_of, Offers}
 use Rattle.mls_assembly.proofs.Latest.{reaches}
 use Rattle.mls_assembly.proofs.Taking.{Came, came_stale, came_again, pends_other}
@@ -27,12 +27,12 @@ use Rattle.mls_assembly.proofs.Rows.{row_is, own_row}
 
 -- what a fitting piece brings is its client's share
 pub fits_share : (s : Sizes) (rank : ℕ) (p : Piece) → IsPiece p → Fits s rank p → IsShare s rank p.client (share_of p)
-fits_share s rank p is fit = record { first = fit.first; count = fit.count; size = is.size ∙ ap (λ (n : ℕ). n * p.count) fit.rows }
+fits_share s rank p is fit = record { some = fit.some; first = fit.first; count = fit.count; size = is.size ∙ ap (λ (n : ℕ). n * p.count) fit.rows }
 
-pub held_some : (held : Held) (key : Key) (life : ℕ) → life_of held key ≡ Some life → IsSome (open_of held key)
-held_some held key life h = some_from (open_of held key) h
+pub held_some : (held : Held) (key : Key) (life : ℕ) → life_of held key ≡ Some life → IsSome (kept_of held key)
+held_some held key life h = some_from (kept_of held key) h
   where
-    some_from : (o : Option OpenKey) → option_map (λ o. o.life) o ≡ Some life → IsSome o
+    some_from : (o : Option KeyShares) → option_map (λ o. o.life) o ≡ Some life → IsSome o
     some_from None e = absurd cc
     some_from (Some x) e = search
 
@@ -48,12 +48,12 @@ other_from : (key : Key) (p : Piece) → is_of_key key p ≡ false → key ≡ k
 other_from key p f same = both_ways _ f (ap (λ k. is_of_key k p) same ∙ own_key p)
 
 -- what is pending of a key where the same is held of it
-pub held_same : (s : Sizes) (rank : ℕ) (old new : Held) (key : Key) (pieces : List Piece) → open_of new key ≡ open_of old key → PendsAt s rank key (life_of old key) (share_at old key) pieces → PendsAt s rank key (life_of new key) (share_at new key) pieces
+pub held_same : (s : Sizes) (rank : ℕ) (old new : Held) (key : Key) (pieces : List Piece) → kept_of new key ≡ kept_of old key → PendsAt s rank key (life_of old key) (share_at old key) pieces → PendsAt s rank key (life_of new key) (share_at new key) pieces
 held_same s rank old new key pieces same h =
-    subst (λ (o : Option OpenKey). PendsAt s rank key (option_map (λ o. o.life) o) (λ client. elim o [ None ↦ None | Some x ↦ share_in x client ]) pieces) (sym same) h
+    subst (λ (o : Option KeyShares). PendsAt s rank key (option_map (λ o. o.life) o) (λ client. elim o [ None ↦ None | Some x ↦ share_in x client ]) pieces) (sym same) h
 
 -- the other keys after a piece
-others_pend : (s : Sizes) (rank : ℕ) (old new : Held) (p : Piece) (pieces : List Piece) → ((key : Key) → (key ≡ key_of p → ⊥) → open_of new key ≡ open_of old key)
+others_pend : (s : Sizes) (rank : ℕ) (old new : Held) (p : Piece) (pieces : List Piece) → ((key : Key) → (key ≡ key_of p → ⊥) → kept_of new key ≡ kept_of old key)
     → Pends s rank (life_of old) (share_at old) pieces → PendsBut (key_of p) s rank (life_of new) (share_at new) (pieces ++ p ∷ [])
 others_pend s rank old new p pieces kept h key other =
     pends_other s rank key (life_of new key) (share_at new key) pieces p (not_own key p other) (held_same s rank old new key pieces (kept key other) (h key))
@@ -91,7 +91,7 @@ same_shares f g h = λ i client. h client i
 pub offers_stored : (s : Sizes) (rank : ℕ) (old new : Held) (p : Piece) (pieces : List Piece) (answer : Assembled) (shares : ℕ → Option Share)
     → AreSizes s → rank < s.ranks → AllByRecursion (Fits s rank) pieces → Fits s rank p → (p.count == width (block s rank)) ≡ false
     → Pends s rank (life_of old) (share_at old) pieces → Stored s rank pieces p shares
-    → life_of new (key_of p) ≡ Some p.life → ((client : ℕ) → share_at new (key_of p) client ≡ shares client) → ((key : Key) → (key ≡ key_of p → ⊥) → open_of new key ≡ open_of old key)
+    → life_of new (key_of p) ≡ Some p.life → ((client : ℕ) → share_at new (key_of p) client ≡ shares client) → ((key : Key) → (key ≡ key_of p → ⊥) → kept_of new key ≡ kept_of old key)
     → answer ≡ cond (has_all s rank (share_at new (key_of p))) answers.Complete answers.Kept → Offers s rank new p answer pieces
 offers_stored s rank old new p pieces answer shares sizes within all fit part h stored life_is shares_are kept is =
     let now : Stored s rank pieces p (share_at new (key_of p)) = subst (Stored s rank pieces p) (sym (same_shares (share_at new (key_of p)) shares shares_are)) stored in
@@ -167,7 +167,7 @@ offers_again s rank held p pieces h was fit is seen =
 -- a life that is greater than the one that is pending
 pub offers_first : (s : Sizes) (rank : ℕ) (old new : Held) (p : Piece) (pieces : List Piece) (answer : Assembled) → AreSizes s → rank < s.ranks → AllByRecursion (Fits s rank) pieces → Fits s rank p → (p.count == width (block s rank)) ≡ false
     → Pends s rank (life_of old) (share_at old) pieces → is_completed s rank (key_of p) pieces ≡ false → IfSome (life_of old (key_of p)) (λ m. m < p.life)
-    → life_of new (key_of p) ≡ Some p.life → ((client : ℕ) → share_at new (key_of p) client ≡ cond (client == p.client) (Some (share_of p)) None) → ((key : Key) → (key ≡ key_of p → ⊥) → open_of new key ≡ open_of old key)
+    → life_of new (key_of p) ≡ Some p.life → ((client : ℕ) → share_at new (key_of p) client ≡ cond (client == p.client) (Some (share_of p)) None) → ((key : Key) → (key ≡ key_of p → ⊥) → kept_of new key ≡ kept_of old key)
     → answer ≡ cond (has_all s rank (share_at new (key_of p))) answers.Complete answers.Kept → Offers s rank new p answer pieces
 offers_first s rank old new p pieces answer sizes within all fit part h was newer life_is shares_are kept is =
     offers_stored s rank old new p pieces answer (with_share (λ client. None) p) sizes within all fit part h
@@ -180,7 +180,7 @@ none_from (Some x) h = absurd cc
 -- another client's piece of the life that is pending
 pub offers_more : (s : Sizes) (rank : ℕ) (old new : Held) (p : Piece) (pieces : List Piece) (answer : Assembled) → AreSizes s → rank < s.ranks → AllByRecursion (Fits s rank) pieces → Fits s rank p → (p.count == width (block s rank)) ≡ false
     → Pends s rank (life_of old) (share_at old) pieces → is_completed s rank (key_of p) pieces ≡ false → life_of old (key_of p) ≡ Some p.life → is_some (share_at old (key_of p) p.client) ≡ false
-    → life_of new (key_of p) ≡ life_of old (key_of p) → ((client : ℕ) → share_at new (key_of p) client ≡ cond (client == p.client) (Some (share_of p)) (share_at old (key_of p) client)) → ((key : Key) → (key ≡ key_of p → ⊥) → open_of new key ≡ open_of old key)
+    → life_of new (key_of p) ≡ life_of old (key_of p) → ((client : ℕ) → share_at new (key_of p) client ≡ cond (client == p.client) (Some (share_of p)) (share_at old (key_of p) client)) → ((key : Key) → (key ≡ key_of p → ⊥) → kept_of new key ≡ kept_of old key)
     → answer ≡ cond (has_all s rank (share_at new (key_of p))) answers.Complete answers.Kept → Offers s rank new p answer pieces
 offers_more s rank old new p pieces answer sizes within all fit part h was at absent life_is shares_are kept is =
     offers_stored s rank old new p pieces answer (with_share (share_at old (key_of p)) p) sizes within all fit part h
@@ -202,21 +202,21 @@ answer_at s s' r r' held key key' answer s_is r_is key_is h =
     ∙ (ap (λ q. cond (has_all s q (share_at held key')) answers.Complete answers.Kept) r_is
     ∙ ap (λ k. cond (has_all s r (share_at held k)) answers.Complete answers.Kept) key_is))
 
+pub same_or_other : (a b : Key) → (a ≡ b) ⊎ (a ≡ b → ⊥)
+same_or_other a b = ⊎_elim
+    (λ (g : a.group ≡ b.group). ⊎_elim
+    (λ (t : a.plane ≡ b.plane). inl (ap (λ (n : ℕ). let k : Key = record { group = n; plane = a.plane } in k) g ∙ ap (λ (n : ℕ). let k : Key = record { group = b.group; plane = n } in k) t))
+    (λ (t : a.plane ≡ b.plane → ⊥). inr (λ e. t (ap (λ (k : Key). k.plane) e)))
+    (cases_eq a.plane b.plane))
+    (λ (g : a.group ≡ b.group → ⊥). inr (λ e. g (ap (λ (k : Key). k.group) e)))
+    (cases_eq a.group b.group)
+
 -- a key that is taken out
-pub pends_dropped : (s : Sizes) (rank : ℕ) (old new : Held) (own : Key) (pieces : List Piece) → open_of new own ≡ None → ((key : Key) → (key ≡ own → ⊥) → open_of new key ≡ open_of old key) → is_completed s rank own pieces ≡ true
+pub pends_dropped : (s : Sizes) (rank : ℕ) (old new : Held) (own : Key) (pieces : List Piece) → kept_of new own ≡ None → ((key : Key) → (key ≡ own → ⊥) → kept_of new key ≡ kept_of old key) → is_completed s rank own pieces ≡ true
     → PendsBut own s rank (life_of old) (share_at old) pieces → Pends s rank (life_of new) (share_at new) pieces
 pends_dropped s rank old new own pieces none kept done h key = ⊎_elim
     (λ (same : key ≡ own).
     subst (λ (k : Key). PendsAt s rank k (life_of new k) (share_at new k) pieces) (sym same)
-    (nothing_pends s rank own (life_of new own) (share_at new own) pieces (ap (option_map (λ (o : OpenKey). o.life)) none) done))
+    (nothing_pends s rank own (life_of new own) (share_at new own) pieces (ap (option_map (λ (o : KeyShares). o.life)) none) done))
     (λ (other : key ≡ own → ⊥). held_same s rank old new key pieces (kept key other) (h key other))
     (same_or_other key own)
-  where
-    same_or_other : (a b : Key) → (a ≡ b) ⊎ (a ≡ b → ⊥)
-    same_or_other a b = ⊎_elim
-        (λ (g : a.group ≡ b.group). ⊎_elim
-        (λ (t : a.plane ≡ b.plane). inl (ap (λ (n : ℕ). let k : Key = record { group = n; plane = a.plane } in k) g ∙ ap (λ (n : ℕ). let k : Key = record { group = b.group; plane = n } in k) t))
-        (λ (t : a.plane ≡ b.plane → ⊥). inr (λ e. t (ap (λ (k : Key). k.plane) e)))
-        (cases_eq a.plane b.plane))
-        (λ (g : a.group ≡ b.group → ⊥). inr (λ e. g (ap (λ (k : Key). k.group) e)))
-        (cases_eq a.group b.group)

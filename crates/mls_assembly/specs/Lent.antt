@@ -4,7 +4,7 @@ use Rattle.mls_model.specs.Studies.{Sizes}
 use Rattle.mls_model.specs.Blocks.{block, width}
 use Rattle.mls_assembly.specs.declared.pending_rows.PendingRows.{PendingRows}
 use Rattle.mls_assembly.specs.Shares.{Share, block_sample}
-use Rattle.mls_assembly.specs.Open.{share_in}
+use Rattle.mls_assembly.specs.KeyShares.{share_in}
 
 -- the study's numbers, the rank, and each client's share
 abbrev pub sizes_of : PendingRows → Sizes
@@ -14,7 +14,7 @@ abbrev pub rank_of : PendingRows → ℕ
 rank_of r = r.rank
 
 abbrev pub shares_of : PendingRows → ℕ → Option Share
-shares_of r = share_in r.open.now
+shares_of r = share_in r.pieces.now
 
 abbrev pub row_count : PendingRows → ℕ
 row_count r = (sizes_of r).parameters + 2

@@ -1,6 +1,6 @@
 pub mod Shares
 pub mod Pendings
-pub mod Open
+pub mod KeyShares
 pub mod Held
 pub mod Offered
 pub mod Lent

@@ -1,5 +1,5 @@
 -- A client's share of a key: what is kept of the piece that brought it.
-use Rattle.std.specs.Prelude.{◌≡◌, ℕ, ◌+◌, ◌-◌, ◌*◌, Bool, not, ◌||◌, List, length, slice_index, Option, Some, None, is_some}
+use Rattle.std.specs.Prelude.{◌≡◌, ℕ, ◌+◌, ◌-◌, ◌*◌, Bool, true, not, ◌||◌, List, length, slice_index, Option, Some, None, is_some}
 use Rattle.std.specs.List.{list_all}
 use Rattle.mls_model.specs.Numbers.{below}
 use Rattle.mls_model.specs.Studies.{Sizes}
@@ -15,8 +15,9 @@ pub record Share : Type 0 where
 abbrev pub share_of : Piece → Share
 share_of p = record { first = p.first; count = p.count; samples = p.samples }
 
--- the share has p + 2 rows of samples for the cells of the block that its client sends
+-- the client sends cells of the block, and the share has p + 2 rows of samples for them
 pub record IsShare (s : Sizes) (rank client : ℕ) (share : Share) : Type 0 where
+  pub some : overlaps s rank client ≡ true
   pub first : share.first ≡ (overlap s rank client).first
   pub count : share.count ≡ width (overlap s rank client)
   pub size : length share.samples ≡ (s.parameters + 2) * share.count

@@ -1,6 +1,7 @@
 //! What is kept of one piece.
 
 ghost use Rattle.std.specs.Prelude.{◌≡◌, ℕ, ◌+◌, ◌-◌, ◌*◌, ◌<◌, ◌≤◌, length, slice_index, take, IfOk};
+ghost use Rattle.mls_frame.specs.Views.{piece_of};
 ghost use Rattle.mls_assembly.specs.Shares.{share_of};
 
 use mls_base::faults::NoMemory;
@@ -27,9 +28,9 @@ impl Model for KeptPiece {
 
 /// Copies a row of a piece behind the rows before it.
 fn copy_row(piece: &PieceView<'_>, row: u32, samples: &mut Vec<u16>) -> Result<(), NoMemory>
-    requires row_in { row < piece.now.rows }
-    requires so_far { samples.old.items ≡ take (row * piece.now.count) piece.now.samples }
-    ensures { IfOk result (λ _. samples.new.items ≡ take ((row + 1) * piece.now.count) piece.now.samples) }
+    requires row_in { row < (piece_of piece.now).rows }
+    requires so_far { samples.old.items ≡ take (row * (piece_of piece.now).count) (piece_of piece.now).samples }
+    ensures { IfOk result (λ _. samples.new.items ≡ take ((row + 1) * (piece_of piece.now).count) (piece_of piece.now).samples) }
 {
     piece.valid();
     for cell in 0..piece.count() {
@@ -41,7 +42,7 @@ fn copy_row(piece: &PieceView<'_>, row: u32, samples: &mut Vec<u16>) -> Result<(
 impl KeptPiece {
     /// What is kept of a piece.
     pub(crate) fn of(alloc: Global, piece: &PieceView<'_>) -> Result<KeptPiece, NoMemory>
-        ensures { IfOk result (λ part. part ≡ share_of piece.now) }
+        ensures { IfOk result (λ part. part ≡ share_of (piece_of piece.now)) }
     {
         piece.valid();
         let size = piece.rows() as usize * piece.count() as usize;

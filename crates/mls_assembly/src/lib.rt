@@ -3,8 +3,8 @@
 
 pub mod assembled;
 pub mod group_step;
-mod opened;
 mod kept_piece;
+mod key_pieces;
 pub mod pending;
 pub mod pending_rows;
 

@@ -2,24 +2,23 @@
 
 ghost use Rattle.std.specs.Prelude.{◌≡◌, ◌≢◌, ◌==◌, ◌&&◌, ℕ, ◌<◌, cond, is_some, IfOk, OnOk, OnErr, IfSome, ◌⊎◌, Some, None, IsSome, IsTrue, ◌↔◌, List, [], true, false};
 ghost use Rattle.std.specs.Option.{option_map};
-ghost use Rattle.std.specs.List.{AllByRecursion};
-ghost use Rattle.mls_model.specs.Studies.{Sizes};
+ghost use Rattle.mls_model.specs.Studies.{planes};
 ghost use Rattle.mls_model.specs.Blocks.{block, width};
 ghost use Rattle.mls_model.specs.Frames.{Piece};
 ghost use Rattle.mls_model.specs.Fitting.{piece_reason};
+ghost use Rattle.mls_frame.specs.Views.{piece_of};
 ghost use Rattle.mls_model.specs.Completion.{Key, key_of, is_completed};
-ghost use Rattle.mls_model.specs.Fitting.{Fits};
 ghost use Rattle.mls_assembly.specs.Shares.{share_of, IsShare, has_all};
-ghost use Rattle.mls_assembly.specs.Open.{share_in};
+ghost use Rattle.mls_assembly.specs.KeyShares.{share_in};
 ghost use Rattle.mls_assembly.specs.Pendings.{Pends, PendsBut};
-ghost use Rattle.mls_assembly.specs.Held.{Held, key_at, open_of, life_of, share_at, PendsFor};
-ghost use Rattle.mls_assembly.specs.Offered.{Offers};
+ghost use Rattle.mls_assembly.specs.Held.{Held, key_at, kept_of, life_of, share_at, ArePending, AreRising, KeepsOthers, AreWhole, DropsCompleted};
+ghost use Rattle.mls_assembly.specs.Offered.{IsPartial, Covers, IsOffered, Stores, StoresKept, StoresComplete, Unchanged};
 ghost use Rattle.mls_assembly.specs.Lent.{sizes_of, rank_of, shares_of};
 
 use crate::assembled::Assembled;
 use crate::group_step::GroupStep;
-use crate::opened::Open;
 use crate::kept_piece::KeptPiece;
+use crate::key_pieces::KeyPieces;
 use crate::pending_rows::PendingRows;
 use mls_base::faults::NoMemory;
 use mls_base::rows::Rows;
@@ -37,22 +36,22 @@ pub struct Pending {
     alloc: Global,
     shape: Shape,
     rank: u32,
-    keys: BTreeMap<GroupStep, Open>,
+    keys: BTreeMap<GroupStep, KeyPieces>,
 }
 
 impl Model for Pending {
-    ghost use Rattle.mls_assembly.specs.Held.{Held, KeepsOpen};
+    ghost use Rattle.mls_assembly.specs.Held.{Held, ArePending};
 
     ghost Value = { Held };
 
     ghost view = { λ p. record { sizes = p.shape; rank = p.rank; entries = p.keys.entries } };
 
-    ghost invariant = { λ p. KeepsOpen (record { sizes = p.shape; rank = p.rank; entries = p.keys.entries }) };
+    ghost invariant = { λ p. ArePending (record { sizes = p.shape; rank = p.rank; entries = p.keys.entries }) };
 }
 
 /// The key of a piece.
 fn key_of(piece: &PieceView<'_>) -> GroupStep
-    ensures { key_at result ≡ key_of piece.now }
+    ensures { key_at result ≡ key_of (piece_of piece.now) }
 {
     GroupStep {
         group: piece.group(),
@@ -66,7 +65,7 @@ impl Pending {
         requires { rank < shape.now.ranks }
         ensures sizes { result.sizes ≡ shape.now }
         ensures rank { result.rank ≡ rank }
-        ensures empty { (key : Key) → open_of result key ≡ None }
+        ensures empty { (key : Key) → kept_of result key ≡ None }
     {
         Pending {
             alloc,
@@ -76,35 +75,40 @@ impl Pending {
         }
     }
 
+    /// Each key is one of the study, some client has a share of it, and each share is its client's. The keys rise by plane, then group.
+    pub fn valid(&self)
+        ensures pending { ArePending self.now }
+        ensures rising { AreRising self.now }
+    {
+        let _keys = self.keys.len();
+    }
+
     /// The life that is pending of a key.
     fn life(&self, key: GroupStep) -> Option<u32>
         ensures { result ≡ life_of self.now (key_at key) }
     {
-        match self.keys.get(&key) {
-            Some(open) => Some(open.life()),
-            None => None,
-        }
+        self.keys.get(&key).map(|pieces| pieces.life())
     }
 
     /// Whether a client's piece is pending of a key.
-    fn has_part(&self, key: GroupStep, client: u32) -> bool
+    fn has_piece(&self, key: GroupStep, client: u32) -> bool
         requires { client < self.now.sizes.clients }
         ensures { result ≡ is_some (share_at self.now (key_at key) client) }
     {
         match self.keys.get(&key) {
-            Some(open) => open.part(client).is_some(),
+            Some(pieces) => pieces.piece(client).is_some(),
             None => false,
         }
     }
 
     /// Whether each client that overlaps the block has a piece of the key.
     fn is_whole(&self, key: GroupStep) -> bool
-        requires { IsSome (open_of self.now (key_at key)) }
+        requires { IsSome (kept_of self.now (key_at key)) }
         ensures { result ≡ has_all self.now.sizes self.now.rank (share_at self.now (key_at key)) }
     {
         for client in 0..self.shape.clients() {
             let overlap = self.shape.overlap(self.rank, client);
-            if overlap.first < overlap.end && !self.has_part(key, client) {
+            if overlap.first < overlap.end && !self.has_piece(key, client) {
                 return false;
             }
         }
@@ -112,40 +116,50 @@ impl Pending {
     }
 
     /// Puts a client's piece beside those of its key and life.
-    fn put(&mut self, key: GroupStep, client: u32, part: KeptPiece)
+    fn put(&mut self, key: GroupStep, client: u32, kept: KeptPiece)
         requires client { client < self.old.sizes.clients }
-        requires fits { IsShare self.old.sizes self.old.rank client part }
-        requires held { IsSome (open_of self.old (key_at key)) }
+        requires fits { IsShare self.old.sizes self.old.rank client kept }
+        requires held { IsSome (kept_of self.old (key_at key)) }
         ensures sizes { self.new.sizes ≡ self.old.sizes }
         ensures rank { self.new.rank ≡ self.old.rank }
         ensures life { life_of self.new (key_at key) ≡ life_of self.old (key_at key) }
-        ensures shares { (c : ℕ) → share_at self.new (key_at key) c ≡ cond (c == client) (Some part) (share_at self.old (key_at key) c) }
-        ensures others { (k : Key) → (k ≡ key_at key → ⊥) → open_of self.new k ≡ open_of self.old k }
+        ensures shares { (c : ℕ)
+            → share_at self.new (key_at key) c ≡ cond (c == client) (Some kept) (share_at self.old (key_at key) c) }
+        ensures others { KeepsOthers self.old self.new (key_at key) }
     {
-        if let Some(open) = self.keys.get_mut(&key) {
-            open.put(client, part);
+        if let Some(pieces) = self.keys.get_mut(&key) {
+            pieces.put(client, kept);
         }
     }
 
     /// Begins a life of a key with a client's piece. Pieces of an earlier life are dropped.
-    fn begin(&mut self, key: GroupStep, life: u32, client: u32, part: KeptPiece) -> Result<(), NoMemory>
+    fn begin(
+        &mut self,
+        key: GroupStep,
+        life: u32,
+        client: u32,
+        kept: KeptPiece,
+    ) -> Result<(), NoMemory>
+        requires group { key.group < self.old.sizes.groups }
+        requires plane { key.step < planes self.old.sizes }
         requires client { client < self.old.sizes.clients }
-        requires fits { IsShare self.old.sizes self.old.rank client part }
+        requires fits { IsShare self.old.sizes self.old.rank client kept }
         ensures sizes { self.new.sizes ≡ self.old.sizes }
         ensures rank { self.new.rank ≡ self.old.rank }
         ensures life { IfOk result (λ _. life_of self.new (key_at key) ≡ Some life) }
-        ensures shares { IfOk result (λ _. (c : ℕ) → share_at self.new (key_at key) c ≡ cond (c == client) (Some part) None) }
-        ensures others { (k : Key) → (k ≡ key_at key → ⊥) → open_of self.new k ≡ open_of self.old k }
+        ensures shares { IfOk result (λ _. (c : ℕ)
+            → share_at self.new (key_at key) c ≡ cond (c == client) (Some kept) None) }
+        ensures others { KeepsOthers self.old self.new (key_at key) }
         ensures err { OnErr result (self.new ≡ self.old) }
     {
-        let open = Open::of(self.alloc, self.shape.clients(), life, client, part)?;
-        self.keys.insert(key, open)?;
+        let pieces = KeyPieces::of(self.alloc, self.shape.clients(), life, client, kept)?;
+        self.keys.insert(key, pieces)?;
         Ok(())
     }
 
     /// What a piece that was stored came to.
     fn kept_or_complete(&self, key: GroupStep) -> Assembled
-        requires { IsSome (open_of self.now (key_at key)) }
+        requires { IsSome (kept_of self.now (key_at key)) }
         ensures { result ≡ cond (has_all self.now.sizes self.now.rank (share_at self.now (key_at key))) Assembled.Complete Assembled.Kept }
     {
         if self.is_whole(key) {
@@ -157,57 +171,67 @@ impl Pending {
 
     /// Takes a piece of a life that is greater than the one that is pending of its key.
     fn start(&mut self, piece: &PieceView<'_>) -> Result<Assembled, NoMemory>
-        requires fits { piece_reason self.old.sizes self.old.rank piece.now ≡ None }
-        requires part { (piece.now.count == width (block self.old.sizes self.old.rank)) ≡ false }
-        requires newer { IfSome (life_of self.old (key_of piece.now)) (λ life. life < piece.now.life) }
-        ensures offers { (pieces : List Piece) → AllByRecursion (Fits self.old.sizes self.old.rank) pieces → PendsFor self.old pieces → is_completed self.old.sizes self.old.rank (key_of piece.now) pieces ≡ false → IfOk result (λ answer. Offers self.old.sizes self.old.rank self.new piece.now answer pieces) }
+        requires fits { piece_reason self.old.sizes self.old.rank (piece_of piece.now) ≡ None }
+        requires part { ((piece_of piece.now).count == width (block self.old.sizes self.old.rank)) ≡ false }
+        requires newer { IfSome (life_of self.old (key_of (piece_of piece.now))) (λ life. life < (piece_of piece.now).life) }
+        ensures offers { IfOk result (λ answer. IsOffered self.old self.new (piece_of piece.now) answer) }
         ensures sizes { self.new.sizes ≡ self.old.sizes }
         ensures rank { self.new.rank ≡ self.old.rank }
-        ensures ready { OnOk result (IsSome (open_of self.new (key_of piece.now))) }
-        ensures stored { IfOk result (λ answer. (answer ≡ Assembled.Kept) ⊎ (answer ≡ Assembled.Complete)) }
+        ensures ready { OnOk result (IsSome (kept_of self.new (key_of (piece_of piece.now)))) }
+        ensures kept { IfOk result (λ answer. (answer ≡ Assembled.Kept) ⊎ (answer ≡ Assembled.Complete)) }
+        ensures stored { IfOk result (λ answer. Stores self.old self.new (piece_of piece.now) answer) }
+        ensures others { KeepsOthers self.old self.new (key_of (piece_of piece.now)) }
         ensures err { OnErr result (self.new ≡ self.old) }
     {
         self.shape.valid();
         piece.valid();
         let key = key_of(piece);
-        let part = KeptPiece::of(self.alloc, piece)?;
-        self.begin(key, piece.life(), piece.client() as u32, part)?;
+        let kept = KeptPiece::of(self.alloc, piece)?;
+        self.begin(key, piece.life(), piece.client() as u32, kept)?;
         Ok(self.kept_or_complete(key))
     }
 
     /// Takes a piece of the life that is pending of its key.
     fn join(&mut self, piece: &PieceView<'_>) -> Result<Assembled, NoMemory>
-        requires fits { piece_reason self.old.sizes self.old.rank piece.now ≡ None }
-        requires part { (piece.now.count == width (block self.old.sizes self.old.rank)) ≡ false }
-        requires same { life_of self.old (key_of piece.now) ≡ Some piece.now.life }
-        ensures offers { (pieces : List Piece) → AllByRecursion (Fits self.old.sizes self.old.rank) pieces → PendsFor self.old pieces → is_completed self.old.sizes self.old.rank (key_of piece.now) pieces ≡ false → IfOk result (λ answer. Offers self.old.sizes self.old.rank self.new piece.now answer pieces) }
+        requires fits { piece_reason self.old.sizes self.old.rank (piece_of piece.now) ≡ None }
+        requires part { ((piece_of piece.now).count == width (block self.old.sizes self.old.rank)) ≡ false }
+        requires same { life_of self.old (key_of (piece_of piece.now)) ≡ Some (piece_of piece.now).life }
+        ensures offers { IfOk result (λ answer. IsOffered self.old self.new (piece_of piece.now) answer) }
         ensures sizes { self.new.sizes ≡ self.old.sizes }
         ensures rank { self.new.rank ≡ self.old.rank }
-        ensures ready { OnOk result (IsSome (open_of self.new (key_of piece.now))) }
-        ensures unchanged { IfOk result (λ answer. (answer ≡ Assembled.Stale) ⊎ (answer ≡ Assembled.Repeated) → self.new ≡ self.old) }
+        ensures ready { OnOk result (IsSome (kept_of self.new (key_of (piece_of piece.now)))) }
+        ensures kept { IfOk result (λ answer. StoresKept self.old self.new (piece_of piece.now) answer) }
+        ensures complete { IfOk result (λ answer. StoresComplete self.old self.new (piece_of piece.now) answer) }
+        ensures unchanged { IfOk result (λ answer. Unchanged self.old self.new answer) }
+        ensures others { KeepsOthers self.old self.new (key_of (piece_of piece.now)) }
         ensures err { OnErr result (self.new ≡ self.old) }
     {
         self.shape.valid();
         piece.valid();
         let key = key_of(piece);
-        if self.has_part(key, piece.client() as u32) {
+        if self.has_piece(key, piece.client() as u32) {
             return Ok(Assembled::Repeated);
         }
-        let part = KeptPiece::of(self.alloc, piece)?;
-        self.put(key, piece.client() as u32, part);
+        let kept = KeptPiece::of(self.alloc, piece)?;
+        self.put(key, piece.client() as u32, kept);
         Ok(self.kept_or_complete(key))
     }
 
     /// Takes a piece that fits the rank and whose key is not completed, and says what becomes of it. It is copied only where it is kept, or completes its key with pieces of other clients. A piece that covers the rank's block alone is complete without memory. After want of memory what is pending is as before.
     pub fn offer(&mut self, piece: &PieceView<'_>) -> Result<Assembled, NoMemory>
-        requires { piece_reason self.old.sizes self.old.rank piece.now ≡ None }
-        ensures offers { (pieces : List Piece) → AllByRecursion (Fits self.old.sizes self.old.rank) pieces → PendsFor self.old pieces → is_completed self.old.sizes self.old.rank (key_of piece.now) pieces ≡ false → IfOk result (λ answer. Offers self.old.sizes self.old.rank self.new piece.now answer pieces) }
+        requires { piece_reason self.old.sizes self.old.rank (piece_of piece.now) ≡ None }
+        ensures offers { IfOk result (λ answer. IsOffered self.old self.new (piece_of piece.now) answer) }
         ensures sizes { self.new.sizes ≡ self.old.sizes }
         ensures rank { self.new.rank ≡ self.old.rank }
-        ensures alone { piece.now.count ≡ width (block self.old.sizes self.old.rank) → (result ≡ Ok Assembled.Complete) × (self.new ≡ self.old) }
-        ensures ready { IfOk result (λ answer. answer ≡ Assembled.Complete → piece.now.count < width (block self.old.sizes self.old.rank) → IsSome (open_of self.new (key_of piece.now))) }
-        ensures unchanged { IfOk result (λ answer. (answer ≡ Assembled.Stale) ⊎ (answer ≡ Assembled.Repeated) → self.new ≡ self.old) }
-        ensures memory { OnErr result (piece.now.count < width (block self.old.sizes self.old.rank)) }
+        ensures alone { Covers self.old (piece_of piece.now) → (result ≡ Ok Assembled.Complete) × (self.new ≡ self.old) }
+        ensures covered { Covers self.old (piece_of piece.now) → AreWhole self.old }
+        ensures ready { IfOk result (λ answer. answer ≡ Assembled.Complete → IsPartial self.old (piece_of piece.now)
+            → IsSome (kept_of self.new (key_of (piece_of piece.now)))) }
+        ensures kept { IfOk result (λ answer. StoresKept self.old self.new (piece_of piece.now) answer) }
+        ensures complete { IfOk result (λ answer. StoresComplete self.old self.new (piece_of piece.now) answer) }
+        ensures unchanged { IfOk result (λ answer. Unchanged self.old self.new answer) }
+        ensures others { KeepsOthers self.old self.new (key_of (piece_of piece.now)) }
+        ensures memory { OnErr result (IsPartial self.old (piece_of piece.now)) }
         ensures err { OnErr result (self.new ≡ self.old) }
     {
         let block = self.shape.block(self.rank);
@@ -230,7 +254,7 @@ impl Pending {
 
     /// The block of a key that has pieces. Nothing is copied. Where each client that overlaps the block has its piece there, each sample of the block is that of a piece.
     pub fn rows(&self, key: GroupStep) -> PendingRows<'_>
-        requires { IsSome (open_of self.now (key_at key)) }
+        requires { IsSome (kept_of self.now (key_at key)) }
         ensures sizes { sizes_of result ≡ self.now.sizes }
         ensures rank { rank_of result ≡ self.now.rank }
         ensures shares { (client : ℕ) → shares_of result client ≡ share_at self.now (key_at key) client }
@@ -239,7 +263,7 @@ impl Pending {
             shape: self.shape,
             rank: self.rank,
             span: self.shape.block(self.rank),
-            open: &self.keys[&key],
+            pieces: &self.keys[&key],
         }
     }
 
@@ -247,9 +271,9 @@ impl Pending {
     pub fn drop_key(&mut self, key: GroupStep)
         ensures sizes { self.new.sizes ≡ self.old.sizes }
         ensures rank { self.new.rank ≡ self.old.rank }
-        ensures own { open_of self.new (key_at key) ≡ None }
-        ensures pends { (pieces : List Piece) → is_completed self.old.sizes self.old.rank (key_at key) pieces ≡ true → PendsBut (key_at key) self.old.sizes self.old.rank (life_of self.old) (share_at self.old) pieces → Pends self.old.sizes self.old.rank (life_of self.new) (share_at self.new) pieces }
-        ensures others { (k : Key) → (k ≡ key_at key → ⊥) → open_of self.new k ≡ open_of self.old k }
+        ensures own { kept_of self.new (key_at key) ≡ None }
+        ensures pends { DropsCompleted self.old self.new (key_at key) }
+        ensures others { KeepsOthers self.old self.new (key_at key) }
     {
         self.keys.remove(&key);
     }
@@ -258,7 +282,7 @@ impl Pending {
     pub fn reset(&mut self)
         ensures sizes { self.new.sizes ≡ self.old.sizes }
         ensures rank { self.new.rank ≡ self.old.rank }
-        ensures empty { (key : Key) → open_of self.new key ≡ None }
+        ensures empty { (key : Key) → kept_of self.new key ≡ None }
     {
         self.keys.clear();
     }

@@ -1,10 +1,10 @@
 //! The block of a key whose pieces are all there.
 
-ghost use Rattle.std.specs.Prelude.{◌≡◌, ℕ, ◌<◌, Some};
-ghost use Rattle.mls_model.specs.Blocks.{block, client_of};
-ghost use Rattle.mls_assembly.specs.Open.{IsOpen};
+ghost use Rattle.std.specs.Prelude.{◌≡◌, ◌<◌};
+ghost use Rattle.mls_model.specs.Blocks.{block};
+ghost use Rattle.mls_assembly.specs.KeyShares.{AreShares};
 
-use crate::opened::Open;
+use crate::key_pieces::KeyPieces;
 use mls_base::Span;
 use mls_base::rows::Rows;
 use mls_base::shape::Shape;
@@ -15,21 +15,10 @@ pub struct PendingRows<'a> {
     pub(crate) shape: Shape,
     pub(crate) rank: u32,
     pub(crate) span: Span,
-    pub(crate) open: &'a Open,
+    pub(crate) pieces: &'a KeyPieces,
     ghost rank_in: { rank < shape.ranks },
     ghost span_is: { span ≡ block shape rank },
-    ghost kept: { IsOpen shape rank open.now },
-}
-
-/// The client whose part holds a cell.
-#[inline]
-fn sender(shape: &Shape, cell: u32) -> u32
-    requires { cell < shape.now.cells }
-    ensures within { result < shape.now.clients }
-    ensures found { client_of shape.now cell ≡ Some result }
-{
-    let scaled = (cell as u64 + 1) * shape.clients() as u64 - 1;
-    (scaled / shape.cells() as u64) as u32
+    ghost kept: { AreShares shape rank pieces.now },
 }
 
 impl<'a> Rows for PendingRows<'a> {
@@ -55,8 +44,8 @@ impl<'a> Rows for PendingRows<'a> {
     fn at(&self, row: u32, cell: u32) -> u16 {
         self.shape.valid();
         let cell = self.span.first + cell;
-        match self.open.part(sender(&self.shape, cell)) {
-            Some(part) => part.at(row, cell),
+        match self.pieces.piece(self.shape.client_of(cell)) {
+            Some(piece) => piece.at(row, cell),
             None => 0,
         }
     }

@@ -1,7 +1,8 @@
-//! A rank of two cells, one step, two groups and one parameter, under sample kind u16, with one client or two.
+//! A rank of two cells, one step, two groups, one parameter and two clients, under sample kind u16.
 
 ghost use Rattle.std.specs.Prelude.{◌≡◌, IsTrue, None};
 ghost use Rattle.mls_model.specs.Fitting.{piece_reason};
+ghost use Rattle.mls_frame.specs.Views.{piece_of};
 
 use crate::{Assembled, GroupStep, Pending};
 use mls_base::numbers::Numbers;
@@ -9,23 +10,21 @@ use mls_base::rows::Rows;
 use mls_base::shape::Shape;
 use mls_frame::{FrameView, PieceView, Seen, view};
 
-fn numbers(clients: u32) -> Numbers {
-    Numbers {
-        cells: 2,
-        steps: 1,
-        groups: 2,
-        parameters: 1,
-        ranks: 1,
-        clients,
-        slots: 16,
-        silence: 300,
-        lives: 5,
-        thresholds: 0,
-        threshold: [0; 8],
-        signed: false,
-        fields: 1,
-    }
-}
+const NUMBERS: Numbers = Numbers {
+    cells: 2,
+    steps: 1,
+    groups: 2,
+    parameters: 1,
+    ranks: 1,
+    clients: 2,
+    slots: 16,
+    silence: 300,
+    lives: 5,
+    thresholds: 0,
+    threshold: [0; 8],
+    signed: false,
+    fields: 1,
+};
 
 // A client's piece of group 0, its samples being these three of the client's one cell.
 fn piece(life: u8, client: u8, samples: [u8; 3]) -> [u8; 35] {
@@ -35,15 +34,9 @@ fn piece(life: u8, client: u8, samples: [u8; 3]) -> [u8; 35] {
     ]
 }
 
-// Group 0, life 1, both cells, from client 0: A is 1 and 2, B is 3 and 4, C is 5 and 6.
-const BOTH_CELLS: [u8; 41] = [
-    0, 0, 0, 37, 1, 0, 0, 0, 1, 0, 0, 0, 0, 0, 0, 0, 0, 0, 0, 0, 3, 0, 0, 0, 0, 0, 0, 0, 2, 0, 1,
-    0, 2, 0, 3, 0, 4, 0, 5, 0, 6,
-];
-
 /// Whether a piece is one that rank 0 takes.
 fn fits(shape: &Shape, piece: &PieceView<'_>) -> bool
-    ensures { IsTrue result → piece_reason shape.now 0 piece.now ≡ None }
+    ensures { IsTrue result → piece_reason shape.now 0 (piece_of piece.now) ≡ None }
 {
     if piece.rows() != shape.parameters() + 2
         || piece.group() >= shape.groups()
@@ -126,39 +119,17 @@ fn complete(pending: &mut Pending, shape: &Shape, bytes: &[u8]) -> Option<[u16; 
 }
 
 #[test]
-fn the_greatest_life_alone_is_assembled(rt: HostRuntime) {
-    let shape = Shape::of(&numbers(2)).expect(&rt, "a shape");
+fn clients_are_assembled(rt: HostRuntime) {
+    let shape = Shape::of(&NUMBERS).expect(&rt, "a shape");
     let mut pending = Pending::new(rt.alloc(), &shape, 0);
-    assert!(rt; pending.is_empty());
-    let first = piece(1, 0, [9, 9, 9]);
-    let second = piece(2, 1, [4, 5, 6]);
-    let stale = piece(1, 1, [8, 8, 8]);
-    let again = piece(2, 1, [7, 7, 7]);
+    let first = piece(2, 1, [4, 5, 6]);
     let last = piece(2, 0, [1, 2, 3]);
     assert_eq!(rt; offer(&mut pending, &shape, &first), Some(Assembled::Kept));
-    assert_eq!(rt; offer(&mut pending, &shape, &second), Some(Assembled::Kept));
-    assert_eq!(rt; offer(&mut pending, &shape, &stale), Some(Assembled::Stale));
-    assert_eq!(rt;
-        offer(&mut pending, &shape, &again),
-        Some(Assembled::Repeated)
-    );
     assert!(rt; !pending.is_empty());
     assert_eq!(rt;
         complete(&mut pending, &shape, &last),
         Some([1, 2, 3, 4, 5, 6])
     );
     assert!(rt; pending.is_empty());
-}
-
-#[test]
-fn a_piece_that_covers_its_block_is_complete_and_not_stored(rt: HostRuntime) {
-    let shape = Shape::of(&numbers(1)).expect(&rt, "a shape");
-    let mut pending = Pending::new(rt.alloc(), &shape, 0);
-    assert_eq!(rt;
-        offer(&mut pending, &shape, &BOTH_CELLS),
-        Some(Assembled::Complete)
-    );
-    assert!(rt; pending.is_empty());
     pending.reset();
-    assert!(rt; pending.is_empty());
 }

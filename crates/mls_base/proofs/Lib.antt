@@ -1,6 +1,6 @@
 mod Rising
 mod Padding
-mod Ranges
+pub mod Ranges
+pub mod Sound
 pub mod Told
-mod Pieces
 pub mod Spans

@@ -181,3 +181,8 @@ meet_mesh m span ordered end =
     let low : max span.first 0 ≡ span.first = omega arith in
     let high : max (max span.first 0) (min span.end m) ≡ span.end = omega arith in
     ap (λ first. span_of first (max (max span.first 0) (min span.end m))) low ∙ ap (λ last. span_of span.first last) high
+
+-- the holder is found
+pub holder_found : (m n x : ℕ) → 1 ≤ n → x < m → find (λ i. is_in_span (nth_span m n i) x) (below n) ≡ Some (holder m n x)
+holder_found m n x some within =
+    (span_found m n x (holder m n x) some).1 (holder_within m n x some within, holder_holds m n x some (omega arith))

@@ -1,5 +1,5 @@
 -- What the objects of the outside tell of themselves, and their counts of faults.
-use Rattle.std.specs.Prelude.{◌≡◌, ◌≢◌, ℕ, ◌+◌, ◌<◌, ◌≤◌, min, max, List, ◌++◌, length, Option, Some, None, IfSome, IsSomeAnd, ⊤}
+use Rattle.std.specs.Prelude.{◌≡◌, ◌≢◌, ℕ, Bool, false, ◌+◌, ◌<◌, ◌≤◌, min, max, List, ◌++◌, length, Option, Some, None, IfSome, IsSomeAnd, IsTrue, ⊤}
 use Rattle.mls_base.specs.declared.faults.LoadFault.{LoadFault}
 use Rattle.mls_base.specs.declared.faults.LoadFault.TheVariants as load
 use Rattle.mls_base.specs.declared.faults.StoreFault.{StoreFault}
@@ -95,3 +95,18 @@ SaveLeaves store.Memory name old new = new ≡ old
 abbrev pub StoreCounts : StoreFault → ℕ → ℕ → Type 0
 StoreCounts store.Failed before now = Rose before now
 StoreCounts store.Memory before now = now ≡ before
+
+-- what was sound is sound
+abbrev pub StaysSound : Bool → Bool → Type 0
+StaysSound old new = IsTrue old → IsTrue new
+
+-- A load of sound files fails only where they tell and don't hold the name.
+abbrev pub SoundLoad : LoadFault → Bool → Option Names → List ℕ → Type 0
+SoundLoad load.Failed sound held name = IsTrue sound → IsSomeAnd held (λ names. names name ≡ None)
+SoundLoad load.TooLong sound held name = ⊤
+SoundLoad load.Memory sound held name = ⊤
+
+-- a call on what is sound doesn't fail
+abbrev pub SoundStore : StoreFault → Bool → Type 0
+SoundStore store.Failed sound = sound ≡ false
+SoundStore store.Memory sound = ⊤

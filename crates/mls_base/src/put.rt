@@ -1,7 +1,6 @@
-//! Writing whole texts to a sink.
+//! Writing a whole text to a sink.
 
-ghost use Rattle.std.specs.Prelude.{◌≡◌, map, OnOk, OnErr};
-ghost use Rattle.mls_model.specs.Numbers.{joined};
+ghost use Rattle.std.specs.Prelude.{◌≡◌, ◌+◌, ◌<◌, ◌≤◌, length, OnOk, OnErr};
 ghost use Rattle.mls_base.specs.Told.{appended, Rose, WroteFront};
 
 use crate::faults::Failed;
@@ -11,6 +10,8 @@ use crate::outside::Sink;
 pub fn put_all<O: Sink>(out: &mut O, bytes: &[u8]) -> Result<(), Failed>
     ensures written { OnOk result (O.told out.new ≡ appended (O.told out.old) bytes.now) }
     ensures faultless { OnOk result (O.faults out.new ≡ O.faults out.old) }
+    ensures sure { OnOk result (O.sure out.old ≤ O.sure out.new + length bytes.now) }
+    ensures unsure { OnErr result (O.sure out.old < length bytes.now) }
     ensures front { OnErr result (WroteFront (O.told out.old) (O.told out.new) bytes.now) }
     ensures rose { OnErr result (Rose (O.faults out.old) (O.faults out.new)) }
 {
@@ -18,19 +19,6 @@ pub fn put_all<O: Sink>(out: &mut O, bytes: &[u8]) -> Result<(), Failed>
     while !rest.is_empty() {
         let n = out.write(rest)?;
         rest = rest.split_at(n).1;
-    }
-    Ok(())
-}
-
-/// Writes the pieces in a row. After `Failed` a front of them went out.
-pub fn put_pieces<O: Sink>(out: &mut O, pieces: &[&[u8]]) -> Result<(), Failed>
-    ensures written { OnOk result (O.told out.new ≡ appended (O.told out.old) (joined (map (λ piece. piece.now) pieces.now))) }
-    ensures faultless { OnOk result (O.faults out.new ≡ O.faults out.old) }
-    ensures front { OnErr result (WroteFront (O.told out.old) (O.told out.new) (joined (map (λ piece. piece.now) pieces.now))) }
-    ensures rose { OnErr result (Rose (O.faults out.old) (O.faults out.new)) }
-{
-    for piece in pieces {
-        put_all(out, piece)?;
     }
     Ok(())
 }

@@ -1,6 +1,6 @@
 //! One sample from each run of a group.
 
-ghost use Rattle.std.specs.Prelude.{◌≡◌, ◌<◌, ◌≤◌, [], ◌∷◌, ◌++◌, length, slice_index, IsTrue, ◌↔◌};
+ghost use Rattle.std.specs.Prelude.{◌≡◌, ◌<◌, ◌≤◌, [], ◌∷◌, ◌++◌, length, slice_index};
 
 use std::marker::Model;
 
@@ -47,13 +47,6 @@ impl Row {
         ensures few { result ≤ 18 }
     {
         self.count
-    }
-
-    /// Whether there are none.
-    pub fn is_empty(&self) -> bool
-        ensures { IsTrue result ↔ (self.now ≡ []) }
-    {
-        self.count == 0
     }
 
     /// The sample at a place.

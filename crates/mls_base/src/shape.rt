@@ -1,11 +1,17 @@
 //! The numbers of a study that its ranks work by.
 
-ghost use Rattle.std.specs.Prelude.{◌≡◌, ◌<◌, ◌↔◌, ◌*◌, ◌≤◌, length, slice_index, IsSome, IfSome, IsTrue, nat_le, ◌==◌};
-ghost use Rattle.std.specs.List.{list_all};
+ghost use Rattle.std.specs.Prelude.{◌≡◌, ◌<◌, ◌↔◌, ◌*◌, ◌≤◌, length, slice_index, IsSome, IfSome, Some, IsTrue, nat_le, ◌==◌};
+ghost use Rattle.std.specs.List.{list_all, find};
 ghost use Rattle.mls_model.specs.Studies.{AreSizes, planes, plane_of, rises};
-ghost use Rattle.mls_model.specs.Blocks.{nth_span, block, part, overlap, meet};
-ghost use Rattle.mls_base.specs.Shapes.{sizes_of, AreNumbers, HaveSizes, HaveWorkers, HaveProducts, HaveThresholds};
+ghost use Rattle.mls_model.specs.Blocks.{nth_span, block, part, overlap, meet, rank_of, client_of, is_in_span};
+ghost use Rattle.mls_model.specs.Numbers.{below};
+ghost use Rattle.mls_base.specs.Ranges.{AreCounts, AreLaunched, AreVaried, AreProducts};
+ghost use Rattle.mls_base.specs.Shapes.{sizes_of, with_ranks, AreNumbers, AreKept};
 
+use crate::limits::{
+    MOST_CELLS, MOST_FIELDS, MOST_GROUPS, MOST_LIVES, MOST_MARKS, MOST_PARAMETERS, MOST_SILENCE,
+    MOST_SLOTS, MOST_STEPS, MOST_THRESHOLDS, MOST_WORKERS,
+};
 use crate::numbers::Numbers;
 use mls_model::blocks::Span;
 use std::marker::Model;
@@ -53,8 +59,9 @@ impl Shape {
         ensures valid { IsSome result ↔ AreNumbers numbers.now }
         ensures value { IfSome result (λ shape. shape ≡ sizes_of numbers.now) }
     {
-        if have_sizes(numbers)
-            && have_workers(numbers)
+        if have_counts(numbers)
+            && have_launch(numbers)
+            && have_varied(numbers)
             && have_products(numbers)
             && have_thresholds(numbers)
         {
@@ -75,6 +82,36 @@ impl Shape {
             })
         } else {
             None
+        }
+    }
+
+    /// The shape with this number of ranks, or None exactly where a study with it isn't valid.
+    pub fn with_ranks(&self, ranks: u32) -> Option<Shape>
+        ensures valid { IsSome result ↔ AreSizes (with_ranks self.now ranks) }
+        ensures value { IfSome result (λ shape. shape ≡ with_ranks self.now ranks) }
+    {
+        Shape::of(&self.numbers(ranks))
+    }
+
+    /// The numbers that make this shape, but for the ranks.
+    fn numbers(&self, ranks: u32) -> Numbers
+        ensures value { sizes_of result ≡ with_ranks self.now ranks }
+        ensures valid { AreNumbers result ↔ AreSizes (with_ranks self.now ranks) }
+    {
+        Numbers {
+            cells: self.cells,
+            steps: self.steps,
+            groups: self.groups,
+            parameters: self.parameters,
+            ranks,
+            clients: self.clients,
+            slots: self.slots,
+            silence: self.silence,
+            lives: self.lives,
+            thresholds: self.thresholds,
+            threshold: self.threshold,
+            signed: self.signed,
+            fields: self.fields,
         }
     }
 
@@ -231,6 +268,30 @@ impl Shape {
         nth_span(self.cells, self.clients, client)
     }
 
+    /// The rank whose block holds a cell.
+    #[inline]
+    pub fn rank_of(&self, cell: u32) -> u32
+        requires { cell < self.now.cells }
+        ensures value { rank_of self.now cell ≡ Some result }
+        ensures within { result < self.now.ranks }
+        ensures first { (block self.now result).first ≤ cell }
+        ensures end { cell < (block self.now result).end }
+    {
+        holder(self.cells, self.ranks, cell)
+    }
+
+    /// The client whose part holds a cell.
+    #[inline]
+    pub fn client_of(&self, cell: u32) -> u32
+        requires { cell < self.now.cells }
+        ensures value { client_of self.now cell ≡ Some result }
+        ensures within { result < self.now.clients }
+        ensures first { (part self.now result).first ≤ cell }
+        ensures end { cell < (part self.now result).end }
+    {
+        holder(self.cells, self.clients, cell)
+    }
+
     /// The cells of a rank's block that a client sends. Where there are none, `first` and `end` are the same.
     pub fn overlap(&self, rank: u32, client: u32) -> Span
         requires rank_in { rank < self.now.ranks }
@@ -250,7 +311,7 @@ impl Shape {
     }
 }
 
-/// Share `i` of `n` over the cells.
+/// Span `i` of `n` over the cells.
 fn nth_span(cells: u32, n: u32, i: u32) -> Span
     requires share_in { i < n }
     requires have_cells { n ≤ cells }
@@ -267,6 +328,20 @@ fn nth_span(cells: u32, n: u32, i: u32) -> Span
     }
 }
 
+/// The number of the one of `n` spans over the cells that holds a cell.
+#[inline]
+fn holder(cells: u32, n: u32, cell: u32) -> u32
+    requires some { 1 ≤ n }
+    requires have_cells { n ≤ cells }
+    requires cell_in { cell < cells }
+    ensures value { find (λ i. is_in_span (nth_span cells n i) cell) (below n) ≡ Some result }
+    ensures within { result < n }
+    ensures first { (nth_span cells n result).first ≤ cell }
+    ensures end { cell < (nth_span cells n result).end }
+{
+    (((cell as u64 + 1) * n as u64 - 1) / cells as u64) as u32
+}
+
 /// Whether a number is from 1 to `most`.
 fn is_up_to(n: u32, most: u32) -> bool
     ensures { IsTrue result ↔ ((1 ≤ n) × (n ≤ most)) }
@@ -274,41 +349,46 @@ fn is_up_to(n: u32, most: u32) -> bool
     1 <= n && n <= most
 }
 
-/// Whether the sizes of the study are within the ranges of a study file.
-fn have_sizes(n: &Numbers) -> bool
-    ensures { IsTrue result ↔ HaveSizes n.now }
+/// Whether the mesh, the steps, the groups and those who work on them are in their ranges.
+fn have_counts(n: &Numbers) -> bool
+    ensures { IsTrue result ↔ AreCounts n.now.cells n.now.steps n.now.groups n.now.ranks n.now.clients }
 {
-    is_up_to(n.cells, 1_048_576)
-        && is_up_to(n.steps, 4096)
-        && is_up_to(n.groups, 65_535)
-        && is_up_to(n.parameters, 16)
-        && is_up_to(n.fields, 4)
+    is_up_to(n.cells, MOST_CELLS)
+        && is_up_to(n.steps, MOST_STEPS)
+        && is_up_to(n.groups, MOST_GROUPS)
+        && is_up_to(n.ranks, n.cells.min(MOST_WORKERS))
+        && is_up_to(n.clients, n.cells.min(MOST_WORKERS))
 }
 
-/// Whether the numbers of those who work on it are.
-fn have_workers(n: &Numbers) -> bool
-    ensures { IsTrue result ↔ HaveWorkers n.now }
+/// Whether the numbers by which groups are launched are.
+fn have_launch(n: &Numbers) -> bool
+    ensures { IsTrue result ↔ AreLaunched n.now.slots n.now.silence n.now.lives }
 {
-    is_up_to(n.ranks, n.cells.min(64))
-        && is_up_to(n.clients, n.cells.min(64))
-        && is_up_to(n.slots, 65_535)
-        && is_up_to(n.silence, 86_400)
-        && is_up_to(n.lives, 255)
+    is_up_to(n.slots, MOST_SLOTS)
+        && is_up_to(n.silence, MOST_SILENCE)
+        && is_up_to(n.lives, MOST_LIVES)
+}
+
+/// Whether the numbers of parameters and fields are.
+fn have_varied(n: &Numbers) -> bool
+    ensures { IsTrue result ↔ AreVaried n.now.parameters n.now.fields }
+{
+    is_up_to(n.parameters, MOST_PARAMETERS) && is_up_to(n.fields, MOST_FIELDS)
 }
 
 /// Whether the products are.
 fn have_products(n: &Numbers) -> bool
-    requires sizes { HaveSizes n.now }
-    requires workers { HaveWorkers n.now }
-    ensures { IsTrue result ↔ HaveProducts n.now }
+    requires counts { AreCounts n.now.cells n.now.steps n.now.groups n.now.ranks n.now.clients }
+    requires varied { AreVaried n.now.parameters n.now.fields }
+    ensures { IsTrue result ↔ AreProducts n.now.cells n.now.steps n.now.groups n.now.ranks n.now.fields }
 {
     let planes = n.steps as u64 * n.fields as u64;
-    n.cells as u64 * planes <= 1_048_576
-        && n.groups as u64 * planes * n.ranks as u64 <= 1_073_741_824
+    n.cells as u64 * planes <= MOST_CELLS as u64
+        && n.groups as u64 * planes * n.ranks as u64 <= MOST_MARKS
 }
 
 /// Whether each number is below the one after it.
-fn is_rising(numbers: &[u16]) -> bool
+pub fn is_rising(numbers: &[u16]) -> bool
     ensures value { result ≡ rises numbers.now }
     ensures fit { IsTrue (list_all (λ t. nat_le t 65535) numbers.now) }
 {
@@ -329,9 +409,9 @@ fn is_zero(numbers: &[u16]) -> bool
 
 /// Whether the first `thresholds` places of `threshold` rise, and the places behind them are 0.
 fn have_thresholds(n: &Numbers) -> bool
-    ensures { IsTrue result ↔ HaveThresholds n.now }
+    ensures { IsTrue result ↔ AreKept n.now }
 {
-    if n.thresholds > 8 {
+    if n.thresholds > MOST_THRESHOLDS {
         return false;
     }
     let (thresholds, behind) = n.threshold.split_at(n.thresholds as usize);

@@ -1,14 +1,15 @@
-//! What no clause says: that calls succeed with ample memory, and the limits of a shape.
+//! What no clause says: that calls succeed with ample memory.
 
-use crate::ends::{StdFiles, StdSink};
+use crate::clock::{Clock, FixedClock, SystemClock};
 use crate::faults::{LoadFault, StoreFault};
+use crate::gate::{Gate, OpenGate};
 use crate::memory::{MemFiles, MemKeeper, MemSink};
 use crate::numbers::Numbers;
 use crate::outside::{Files, Keeper, Sink};
-use crate::put::{put_all, put_pieces};
+use crate::put::put_all;
 use crate::row::Row;
 use crate::shape::Shape;
-use std::alloc::{AllocError, Global};
+use crate::system::{StdFiles, StdSink};
 use std::{fs, io};
 
 fn small() -> Numbers {
@@ -30,213 +31,6 @@ fn small() -> Numbers {
 }
 
 #[test]
-fn shapes_have_limits(rt: HostRuntime) {
-    let cases = [
-        (small(), true),
-        (
-            Numbers {
-                cells: 0,
-                ..small()
-            },
-            false,
-        ),
-        (
-            Numbers {
-                cells: 2,
-                ..small()
-            },
-            false,
-        ),
-        (
-            Numbers {
-                cells: 1_048_576,
-                steps: 1,
-                fields: 1,
-                ..small()
-            },
-            true,
-        ),
-        (
-            Numbers {
-                cells: 1_048_577,
-                steps: 1,
-                fields: 1,
-                ..small()
-            },
-            false,
-        ),
-        (
-            Numbers {
-                cells: 349_526,
-                steps: 3,
-                fields: 1,
-                ..small()
-            },
-            false,
-        ),
-        (
-            Numbers {
-                steps: 4096,
-                fields: 4,
-                cells: 64,
-                ..small()
-            },
-            true,
-        ),
-        (
-            Numbers {
-                steps: 4097,
-                fields: 1,
-                ..small()
-            },
-            false,
-        ),
-        (
-            Numbers {
-                fields: 5,
-                ..small()
-            },
-            false,
-        ),
-        (
-            Numbers {
-                groups: 65_535,
-                ranks: 1,
-                steps: 4096,
-                fields: 4,
-                ..small()
-            },
-            true,
-        ),
-        (
-            Numbers {
-                groups: 65_535,
-                ranks: 2,
-                steps: 4096,
-                fields: 2,
-                ..small()
-            },
-            true,
-        ),
-        (
-            Numbers {
-                groups: 65_535,
-                ranks: 3,
-                steps: 4096,
-                fields: 2,
-                ..small()
-            },
-            false,
-        ),
-        (
-            Numbers {
-                groups: 65_536,
-                ..small()
-            },
-            false,
-        ),
-        (
-            Numbers {
-                parameters: 16,
-                ..small()
-            },
-            true,
-        ),
-        (
-            Numbers {
-                parameters: 17,
-                ..small()
-            },
-            false,
-        ),
-        (
-            Numbers {
-                ranks: 10,
-                clients: 10,
-                ..small()
-            },
-            true,
-        ),
-        (
-            Numbers {
-                ranks: 11,
-                ..small()
-            },
-            false,
-        ),
-        (
-            Numbers {
-                clients: 11,
-                ..small()
-            },
-            false,
-        ),
-        (
-            Numbers {
-                cells: 100,
-                ranks: 65,
-                ..small()
-            },
-            false,
-        ),
-        (
-            Numbers {
-                silence: 86_401,
-                ..small()
-            },
-            false,
-        ),
-        (
-            Numbers {
-                lives: 256,
-                ..small()
-            },
-            false,
-        ),
-        (
-            Numbers {
-                thresholds: 0,
-                ..small()
-            },
-            false,
-        ),
-        (
-            Numbers {
-                thresholds: 3,
-                ..small()
-            },
-            false,
-        ),
-        (
-            Numbers {
-                threshold: [7, 7, 0, 0, 0, 0, 0, 0],
-                ..small()
-            },
-            false,
-        ),
-        (
-            Numbers {
-                thresholds: 8,
-                threshold: [0, 1, 2, 3, 4, 5, 6, 65_535],
-                ..small()
-            },
-            true,
-        ),
-        (
-            Numbers {
-                thresholds: 9,
-                threshold: [0, 1, 2, 3, 4, 5, 6, 65_535],
-                ..small()
-            },
-            false,
-        ),
-    ];
-    for (i, (numbers, valid)) in cases.iter().enumerate() {
-        assert_eq!(rt; Shape::of(numbers).is_some(), *valid, "case {i}");
-    }
-}
-
-#[test]
 fn blocks_and_overlaps(rt: HostRuntime) {
     let shape = Shape::of(&small()).expect(&rt, "a shape");
     assert_eq!(rt; shape.planes(), 6);
@@ -249,6 +43,8 @@ fn blocks_and_overlaps(rt: HostRuntime) {
     assert!(rt; both.first == 3 && both.end == 5);
     let none = shape.overlap(0, 1);
     assert!(rt; none.first == 5 && none.end == 5);
+    assert!(rt; shape.rank_of(5) == 1 && shape.client_of(5) == 1);
+    assert!(rt; shape.with_ranks(10).is_some() && shape.with_ranks(11).is_none());
 }
 
 #[test]
@@ -260,57 +56,33 @@ fn rows_hold_samples(rt: HostRuntime) {
     assert_eq!(rt; row.at(1), 65_535);
 }
 
-/// Writes a text in two ways to a sink with some room, whose call 1 fails if asked.
-fn written(alloc: Global, room: u64, fails: bool) -> Result<(Vec<u8>, bool), AllocError> {
-    let fails = if fails {
-        vec![in alloc; 1u64]?
-    } else {
-        Vec::new(alloc)
-    };
-    let Ok(mut sink) = MemSink::new(alloc, room, fails) else {
-        return Err(AllocError);
-    };
-    let done = put_all(&mut sink, b"abc").is_ok()
-        && put_pieces(&mut sink, &[b"de".as_slice(), b"", b"f"]).is_ok();
-    Ok((Vec::from_slice(alloc, sink.bytes())?, done))
-}
-
 #[test]
 fn texts_are_written(rt: HostRuntime) {
-    let cases = [
-        (6, false, b"abcdef".as_slice(), true),
-        (5, false, b"abcde".as_slice(), false),
-        (4, false, b"abcd".as_slice(), false),
-        (0, false, b"".as_slice(), false),
-        (9, true, b"abc".as_slice(), false),
-    ];
-    for (room, fails, text, whole) in cases {
-        let (bytes, done) = written(rt.alloc(), room, fails).expect(&rt, "memory");
-        assert!(rt; bytes.as_slice() == text && done == whole, "room {room}");
-    }
+    let alloc = rt.alloc();
+    let fails = vec![in alloc; 1u64].expect(&rt, "memory");
+    let mut sink = MemSink::new(alloc, 4, fails).expect(&rt, "memory");
+    assert!(rt; put_all(&mut sink, b"abc").is_ok());
+    assert!(rt; put_all(&mut sink, b"d").is_err());
+    assert!(rt; put_all(&mut sink, b"de").is_err());
+    assert!(rt; sink.bytes() == b"abcd".as_slice());
 }
 
 #[test]
 fn files_in_memory(rt: HostRuntime) {
     let alloc = rt.alloc();
-    let mut files = MemFiles::new(alloc, vec![in alloc; 3, 5].expect(&rt, "memory"));
+    let mut files = MemFiles::new(alloc, vec![in alloc; 2u64].expect(&rt, "memory"));
     assert!(rt; files.set("a", b"12345").is_ok());
-    assert!(rt; files.held("a") == Some(b"12345".as_slice()));
     assert!(rt; files.load(alloc, "a", 5).expect(&rt, "call 0").as_slice() == b"12345".as_slice());
     assert_eq!(rt; files.load(alloc, "a", 4), Err(LoadFault::TooLong));
-    assert_eq!(rt; files.load(alloc, "b", 4), Err(LoadFault::Failed));
     assert_eq!(rt; files.save(alloc, "a", b"6"), Err(StoreFault::Failed));
-    assert!(rt; files.held("a") == Some(b"12345".as_slice()));
     assert_eq!(rt; files.save(alloc, "b", b"6"), Ok(()));
-    assert_eq!(rt; files.load(alloc, "b", 9), Err(LoadFault::Failed));
     assert!(rt; files.held("b") == Some(b"6".as_slice()));
 }
 
 #[test]
-fn keepers(rt: HostRuntime) {
+fn keeper_in_memory(rt: HostRuntime) {
     let alloc = rt.alloc();
-    let mut keeper = MemKeeper::new(alloc, vec![in alloc; 2u64].expect(&rt, "memory"));
-    assert!(rt; keeper.get(alloc).expect(&rt, "call 0").is_none());
+    let mut keeper = MemKeeper::new(alloc, vec![in alloc; 1u64].expect(&rt, "memory"));
     assert!(rt;
         keeper
             .put(Vec::from_slice(alloc, b"one").expect(&rt, "memory"))
@@ -318,15 +90,24 @@ fn keepers(rt: HostRuntime) {
     );
     assert!(rt; keeper.put(Vec::new(alloc)).is_err());
     assert!(rt; keeper.held() == Some(b"one".as_slice()));
-    let got = keeper.get(alloc).expect(&rt, "call 3").expect(&rt, "bytes");
+    let got = keeper.get(alloc).expect(&rt, "call 2").expect(&rt, "bytes");
     assert!(rt; got.as_slice() == b"one".as_slice());
+}
+
+#[test]
+fn clocks(rt: HostRuntime) {
+    let alloc = rt.alloc();
+    let mut fixed = FixedClock::new(vec![in alloc; 3, 5].expect(&rt, "memory"));
+    assert!(rt; fixed.now() == 3 && fixed.now() == 5 && fixed.now() == 5);
+    let mut system = SystemClock::new(&rt);
+    assert!(rt; system.now() < 60);
+    OpenGate.pass(0, 0);
 }
 
 #[test]
 fn standard_output(rt: HostRuntime) {
     let mut sink = StdSink::new(&rt);
     assert!(rt; put_all(&mut sink, b"a line of the test of the sink\n").is_ok());
-    assert!(rt; sink.write(b"\n") == Ok(1));
 }
 
 #[test]
@@ -339,12 +120,7 @@ fn files_of_the_system(rt: HostRuntime) -> io::Result<()> {
     assert!(rt;
         files.load(alloc, name, 10).expect(&rt, "a file").as_slice() == b"some bytes".as_slice()
     );
-    assert_eq!(rt; files.load(alloc, name, 9), Err(LoadFault::TooLong));
     fs::remove_file(&rt, name)?;
     assert_eq!(rt; files.load(alloc, name, 10), Err(LoadFault::Failed));
-    assert_eq!(rt;
-        files.save(alloc, "no such folder/file", b""),
-        Err(StoreFault::Failed)
-    );
     Ok(())
 }

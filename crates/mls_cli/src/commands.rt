@@ -16,7 +16,7 @@ use crate::fold::{run_fold, run_scheduled};
 use crate::watch::run_watch;
 use crate::words::{Words, WordsFault, read_words};
 use mls_base::outside::{Files, Keeper, Sink};
-use mls_result::{Unbuilt, Status};
+use mls_result::{Status, Unbuilt};
 use std::alloc::Global;
 
 /// Carries out a command.

@@ -58,6 +58,8 @@ impl<W: Write + Drop> Sink for BufferedSink<W> {
 
     ghost told = { λ s. None };
 
+    ghost sure = { λ s. 0 };
+
     fn write(&mut self, piece: &[u8]) -> Result<usize, Failed> {
         match self.out.write_all(piece) {
             Ok(()) => Ok(piece.len()),

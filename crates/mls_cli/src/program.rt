@@ -4,7 +4,7 @@ ghost use Rattle.std.specs.Prelude.{◌≡◌, vec_len, IfOk};
 
 use crate::commands::melissa;
 use crate::output::BufferedSink;
-use mls_base::ends::StdFiles;
+use mls_base::system::StdFiles;
 use mls_result::Status;
 use mls_slot::{FileDisk, SlotKeeper};
 use std::alloc::{AllocError, Global};

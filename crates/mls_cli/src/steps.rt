@@ -13,7 +13,7 @@ use mls_base::faults::LoadFault;
 use mls_base::outside::Files;
 use mls_launch::{Event, EventFault, OutFault, read_events};
 use mls_replay::is_calm;
-use mls_result::{FileRole, Unbuilt, Status};
+use mls_result::{FileRole, Status, Unbuilt};
 use mls_study::{Study, StudyFault, read_study};
 use mls_tape::{SchedFault, SchedWhy, Schedule, Tape, TapeFault, TapeWhy};
 use std::alloc::Global;

@@ -6,7 +6,7 @@ use crate::{BufferedSink, Words, WordsFault, melissa, read_words};
 use mls_base::memory::{MemFiles, MemKeeper, MemSink};
 use mls_base::outside::Sink;
 use mls_model::studies::{Key, Product};
-use mls_result::{FileRole, Unbuilt, Status};
+use mls_result::{FileRole, Status, Unbuilt};
 use mls_study::StudyFault;
 use mls_tape::{SchedWhy, TapeWhy};
 use std::alloc::{AllocError, Global};

@@ -17,12 +17,12 @@ append_none (x ∷ xs) = ap (λ ys. x ∷ ys) (append_none xs)
 -- the start of a line and the values before a place
 pub record Lined (start line : List ℕ) (vs : List ℤ) (place : ℕ) : Type 0 where
   pub text : line ≡ start ++ flat_map value_words (take place vs)
-  pub size : length line ≤ 91 + 41 * place
+  pub size : length line ≤ 31 + 21 * place
 
-pub lined_none : (start : List ℕ) (vs : List ℤ) → length start ≤ 91 → Lined start start vs 0
+pub lined_none : (start : List ℕ) (vs : List ℤ) → length start ≤ 31 → Lined start start vs 0
 lined_none start vs short = record { text = sym (append_none start); size = omega arith }
 
-pub lined_more : (start line new : List ℕ) (vs : List ℤ) (place : ℕ) (v : ℤ) → Lined start line vs place → element vs place ≡ Some v → new ≡ line ++ value_words v → length new ≤ length line + 41 → Lined start new vs (place + 1)
+pub lined_more : (start line new : List ℕ) (vs : List ℤ) (place : ℕ) (v : ℤ) → Lined start line vs place → element vs place ≡ Some v → new ≡ line ++ value_words v → length new ≤ length line + 21 → Lined start new vs (place + 1)
 lined_more start line new vs place v l there step longer =
     let one : flat_map value_words (v ∷ []) ≡ value_words v = append_none (value_words v) in
     let more : flat_map value_words (take (place + 1) vs) ≡ flat_map value_words (take place vs) ++ value_words v =

@@ -65,20 +65,6 @@ impl Design {
         })
     }
 
-    /// How many groups there are.
-    pub fn groups(&self) -> u32
-        ensures { result ≡ self.now.groups }
-    {
-        self.groups
-    }
-
-    /// How many parameters vary.
-    pub fn parameters(&self) -> u32
-        ensures { result ≡ length self.now.ranges }
-    {
-        self.ranges.len() as u32
-    }
-
     /// The word that gives a simulation's value of a parameter.
     fn word(&self, group: u32, sim: u32, parameter: u32) -> u32
         requires group { group < self.now.groups }
@@ -97,7 +83,8 @@ impl Design {
     pub fn value(&self, group: u32, sim: u32, parameter: u32) -> i64
         requires group { group < self.now.groups }
         requires parameter { parameter < length self.now.ranges }
-        ensures { (study : Stated) → self.now ≡ design_of study → element (values study group sim) parameter ≡ Some result }
+        ensures { (study : Stated) → self.now ≡ design_of study →
+            element (values study group sim) parameter ≡ Some result }
     {
         let range = &self.ranges[parameter as usize];
         range.value(self.word(group, sim, parameter))
@@ -107,7 +94,8 @@ impl Design {
     fn input(&self, group: u32, sim: u32, parameter: u32) -> u16
         requires group { group < self.now.groups }
         requires parameter { parameter < length self.now.ranges }
-        ensures { (study : Stated) → self.now ≡ design_of study → element (inputs study group sim) parameter ≡ Some result }
+        ensures { (study : Stated) → self.now ≡ design_of study →
+            element (inputs study group sim) parameter ≡ Some result }
     {
         let range = &self.ranges[parameter as usize];
         range.input(self.word(group, sim, parameter))

@@ -5,12 +5,12 @@
 //! parameter. Contracts see it as what `design_of` makes of its study, and "made for this study" is that equation.
 #![tactic(auto)]
 
-pub mod design;
+mod design;
 pub mod laws;
-pub mod piece;
+mod piece;
 mod range;
-pub mod solver;
-pub mod text;
+mod solver;
+mod text;
 mod words;
 
 pub use design::Design;

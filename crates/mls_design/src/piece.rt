@@ -32,7 +32,8 @@ fn add_row(
     requires ordered { cells.first ≤ cells.end }
     requires cells_in { cells.end ≤ 1048576 }
     requires fits { (shift : ℕ) → response shift inputs.now ≤ 65535 }
-    ensures { OnOk result (samples.new ≡ samples.old ++ map (λ x. response (cells.first + x + step + field) inputs.now) (below (width cells))) }
+    ensures { let row = map (λ x. response (cells.first + x + step + field) inputs.now) (below (width cells)) in
+        OnOk result (samples.new ≡ samples.old ++ row) }
 {
     for place in 0..cells.end - cells.first {
         let sample = response(inputs, cells.first + place + step + field);
@@ -57,7 +58,9 @@ fn group_rows(
     requires field_in { field < study.now.sizes.fields }
     requires ordered { cells.first ≤ cells.end }
     requires cells_in { cells.end ≤ study.now.sizes.cells }
-    ensures { IfOk result (λ samples. samples ≡ flat_map (λ sim. solved_row study.now group sim step field cells.first (width cells)) (below (2 + study.now.sizes.parameters))) }
+    ensures { IfOk result (λ samples. samples ≡
+        flat_map (λ sim. solved_row study.now group sim step field cells.first (width cells))
+        (below (2 + study.now.sizes.parameters))) }
 {
     study.valid();
     let count = 2 + study.shape().parameters();
@@ -87,7 +90,8 @@ pub fn make_piece(
     requires field_in { field < study.now.sizes.fields }
     requires rank_in { rank < study.now.sizes.ranks }
     requires client_in { client < study.now.sizes.clients }
-    ensures { IfOk result (λ frame. owned_frame frame ≡ piece (solved_piece study.now group life step field rank client)) }
+    ensures { let made = solved_piece study.now group life step field rank client in
+        IfOk result (λ frame. owned_frame frame ≡ piece made) }
 {
     study.valid();
     let shape = study.shape();

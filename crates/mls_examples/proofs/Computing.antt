@@ -2,7 +2,7 @@
 use Rattle.std.specs.Fmt.{digits}
 use Rattle.mls_model.specs.Places.{gathered, any_place, all_places}
 use Rattle.mls_model.specs.Frames.{piece_head, body, spelling, samples_in, fixed_frame, piece_in, fixed_sight, piece_sight, sized_sight, sight}
-use Rattle.mls_model.specs.Lanes.{end_at, frames_in, lane_of, lane_at, lanes_at, samples_byte, lane_bytes_of, with_events, tape_of}
+use Rattle.mls_model.specs.Lanes.{end_at, frames_in, lane_of, lane_at, lanes_at, samples_byte, lane_bytes_of, with_events, tape_of, lane_spelling, tape_bytes}
 use Rattle.mls_model.specs.Schedules.{plain_order, plain, is_legal_order, is_legal, is_complete, schedule_text}
 use Rattle.mls_model.specs.Histories.{history}
 use Rattle.mls_model.specs.Survival.{survives, surviving, last_save, crash_after_save}
@@ -13,11 +13,15 @@ use Rattle.mls_model.specs.AcceptedRows.{completions, accepted, sample_rows}
 use Rattle.mls_model.specs.Statistics.{variance_top, third_top, covariance_top}
 use Rattle.mls_model.specs.Designs.{drawn, word, word_of, values, design_line, group_lines, design_text, inputs, solve}
 use Rattle.mls_model.specs.ResultText.{study_line, rank_line, rank_lines, lane_line, lane_lines, step_line, power_line, variance_line, third_line, extrema_line, exceed_words, exceed_line, millionths_words, power_lines, extrema_lines, exceed_lines, lines_of}
+use Rattle.mls_text.specs.Decimals.{number_below}
+use Rattle.mls_text.specs.Fronts.{number_in, number_before}
+use Rattle.mls_tape.specs.ScheduleLines.{orders_of}
+use Rattle.mls_tape.specs.ScheduleReading.{line_in, line_refusal, lines_from, schedule_of}
 use Rattle.mls_model.specs.SumsText.{sums_powers, sums_extrema}
 
 -- what the bytes of a frame, a lane and a tape are
 unfoldable pub of_bytes : Unit {0}
-unfolding piece_head body spelling samples_in fixed_frame piece_in fixed_sight piece_sight sized_sight sight end_at frames_in lane_of lane_at lanes_at samples_byte lane_bytes_of with_events tape_of
+unfolding piece_head body spelling samples_in fixed_frame piece_in fixed_sight piece_sight sized_sight sight end_at frames_in lane_of lane_at lanes_at samples_byte lane_bytes_of with_events tape_of lane_spelling tape_bytes
 of_bytes = tt
 
 -- what happens at a rank
@@ -34,3 +38,8 @@ of_texts = tt
 unfoldable pub of_designs : Unit {0}
 unfolding digits drawn word word_of values design_line group_lines design_text inputs solve
 of_designs = tt
+
+-- how a schedule's text is read
+unfoldable pub of_schedules : Unit {0}
+unfolding digits number_below number_in number_before orders_of line_in line_refusal lines_from schedule_of
+of_schedules = tt

@@ -2,3 +2,4 @@ pub mod Indices
 pub mod Texts
 pub mod Computing
 pub mod Equal
+pub mod ComputingStates

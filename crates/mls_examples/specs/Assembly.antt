@@ -6,7 +6,7 @@ use Rattle.mls_model.specs.declared.studies.Statistic.TheVariants.{Power, Sobol}
 use Rattle.mls_model.specs.Numbers.{joined, below}
 use Rattle.mls_model.specs.Studies.{Sizes, Study}
 use Rattle.mls_model.specs.Blocks.{overlap, overlaps, width}
-use Rattle.mls_model.specs.Frames.{Frame, piece}
+use Rattle.mls_model.specs.Frames.{Frame, Piece, piece}
 use Rattle.mls_model.specs.Lanes.{Lane}
 use Rattle.mls_examples.specs.Small.{one_cell, study_of, small_piece, sent, client_lane}
 
@@ -26,8 +26,11 @@ abbrev pub two_clients : Study
 two_clients = study_of (record (one_cell 2) { cells = 2; clients = 2 }) (Power ∷ Sobol ∷ [])
 
 -- what a client sends of group 0: a life and the samples of its one cell
+abbrev pub part_piece : ℕ → ℕ → List ℕ → Piece
+part_piece client life samples = record (small_piece 0 life samples) { client = client; first = client }
+
 abbrev pub part_sent : ℕ → ℕ → List ℕ → Frame
-part_sent client life samples = piece (record (small_piece 0 life samples) { client = client; first = client })
+part_sent client life samples = piece (part_piece client life samples)
 
 abbrev pub two_clients_lanes : List Lane
 two_clients_lanes = client_lane (part_sent 0 1 (1 ∷ 3 ∷ 3 ∷ []) ∷ []) ∷ client_lane (part_sent 1 1 (5 ∷ 1 ∷ 1 ∷ []) ∷ []) ∷ []

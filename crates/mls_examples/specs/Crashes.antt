@@ -6,6 +6,7 @@ use Rattle.mls_model.specs.Frames.{Frame, save, crash}
 use Rattle.mls_model.specs.Lanes.{Lane}
 use Rattle.mls_model.specs.Histories.{LaneEvent}
 use Rattle.mls_examples.specs.Small.{sent, client_lane, control_lane}
+use Rattle.mls_examples.specs.Assembly.{part_sent}
 
 -- a group's piece sent twice, with these frames on a control lane
 abbrev pub group_0 : Frame
@@ -58,3 +59,23 @@ sent_anew_text = joined (study_words ∷ codes "rank 0 accepted 1 kept 0 replay 
 
 abbrev pub crashed_twice_text : List ℕ
 crashed_twice_text = joined (study_words ∷ codes "rank 0 accepted 1 kept 0 replay 0 stale 0 repeated 0 foreign 0 0 0 0 0 0\n" ∷ codes "lane 0 rank 0 client events 2 clean\n" ∷ codes "lane 1 rank 0 control events 3 clean\n" ∷ group_0_lines ∷ [])
+
+-- a piece of group 0 from one of two clients, with a life
+abbrev pub from_client : ℕ → ℕ → LaneEvent
+from_client client life = record { kind = Client; frame = part_sent client life (1 ∷ 2 ∷ 3 ∷ []) }
+
+-- client 0's piece is saved, a greater life is lost, and client 1's piece completes what was saved
+abbrev pub later_life_lost : List LaneEvent
+later_life_lost = from_client 0 1 ∷ the_save ∷ from_client 1 2 ∷ the_crash ∷ from_client 1 1 ∷ []
+
+-- client 0's piece is lost before the save
+abbrev pub lost_before_the_save : List LaneEvent
+lost_before_the_save = from_client 0 1 ∷ the_crash ∷ the_save ∷ the_crash ∷ []
+
+-- the key is completed and lost twice
+abbrev pub completed_and_lost : List LaneEvent
+completed_and_lost = from_client 0 1 ∷ the_save ∷ from_client 1 1 ∷ the_crash ∷ from_client 1 1 ∷ the_crash ∷ []
+
+-- a greater life is saved too, so that the lesser one is stale after the crash
+abbrev pub later_life_saved : List LaneEvent
+later_life_saved = from_client 0 1 ∷ the_save ∷ from_client 1 2 ∷ the_save ∷ the_crash ∷ from_client 1 1 ∷ from_client 0 2 ∷ []

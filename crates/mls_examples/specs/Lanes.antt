@@ -1,9 +1,10 @@
 -- Bytes as frames, lanes and tapes.
-use Rattle.std.specs.Prelude.{ℕ, List, [], ◌∷◌, ◌++◌, codes}
+use Rattle.std.specs.Prelude.{ℕ, List, [], ◌∷◌, ◌++◌, map, codes}
 use Rattle.mls_model.specs.declared.lanes.LaneEnd.{LaneEnd}
 use Rattle.mls_model.specs.Numbers.{joined}
-use Rattle.mls_model.specs.Frames.{Frame, Piece, piece, beat, bye, save, crash}
-use Rattle.mls_model.specs.Lanes.{Lane}
+use Rattle.mls_model.specs.declared.lanes.LaneKind.TheVariants.{Client}
+use Rattle.mls_model.specs.Frames.{Frame, Piece, piece, beat, bye, save, crash, spelling}
+use Rattle.mls_model.specs.Lanes.{Lane, SpelledLane}
 use Rattle.mls_examples.specs.Small.{small_piece, sent, client_lane, control_lane}
 use Rattle.mls_examples.specs.Statistics.{two_groups_cell}
 
@@ -87,3 +88,21 @@ faulty_lanes = client_lane (
     ∷ piece (record { life = 1; group = 1; plane = 0; client = 0; rows = 3; first = 1; count = 1; samples = 1 ∷ 2 ∷ 3 ∷ [] })
     ∷ piece (record { life = 1; group = 1; plane = 0; client = 0; rows = 3; first = 0; count = 1; samples = 1 ∷ 2 ∷ 3 ∷ [] })
     ∷ []) ∷ []
+
+-- a tape of signed samples without a lane
+abbrev pub signed_no_lane_tape : List ℕ
+signed_no_lane_tape = 0x4d ∷ 0x54 ∷ 0x41 ∷ 0x50 ∷ 0 ∷ 2 ∷ 1 ∷ 0 ∷ 0 ∷ 0 ∷ 0 ∷ []
+
+-- the lane of the two groups, with its bytes
+abbrev pub two_groups_frames : List Frame
+two_groups_frames = sent 0 1 (1 ∷ 3 ∷ 3 ∷ []) ∷ sent 1 1 (5 ∷ 1 ∷ 1 ∷ []) ∷ []
+
+abbrev pub two_groups_lane : SpelledLane
+two_groups_lane = record { rank = 0; kind = Client; bytes = joined (map spelling two_groups_frames) }
+
+-- the five bytes of a save, and a client lane of it alone
+abbrev pub save_bytes : List ℕ
+save_bytes = 0 ∷ 0 ∷ 0 ∷ 1 ∷ 4 ∷ []
+
+abbrev pub one_save : LaneEnd → Lane
+one_save end = record (client_lane (save ∷ [])) { end = end }

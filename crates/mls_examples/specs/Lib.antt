@@ -10,3 +10,5 @@ pub mod Studies
 pub mod Sums
 pub mod Designs
 pub mod Ranks
+pub mod Schedules
+pub mod CheckpointBytes

@@ -1,6 +1,6 @@
 //! Bytes as frames, lanes and tapes.
 
-ghost use Rattle.std.specs.Prelude.{◌≡◌, ◌+◌, ◌++◌, length, List, [], ◌∷◌, map, take, replicate, Result, Ok, Err, false};
+ghost use Rattle.std.specs.Prelude.{◌≡◌, ◌+◌, ◌++◌, length, List, [], ◌∷◌, map, take, replicate, Result, Ok, Err, true, false};
 ghost use Rattle.mls_model.specs.declared.lanes.LaneKind.TheVariants.{Client};
 ghost use Rattle.mls_model.specs.declared.lanes.LaneEnd.TheVariants.{Clean, Cut, BadKind, BadLength};
 ghost use Rattle.mls_model.specs.declared.lanes.TapeWhy.TheVariants as why;
@@ -8,12 +8,12 @@ ghost use Rattle.mls_model.specs.declared.outcomes.Outcome.TheVariants.{Accepted
 ghost use Rattle.mls_model.specs.declared.outcomes.Reason.TheVariants as reason;
 ghost use Rattle.mls_model.specs.Numbers.{below, joined};
 ghost use Rattle.mls_model.specs.Frames.{hello, welcome, refuse, piece, spelling, sight, whole, more};
-ghost use Rattle.mls_model.specs.Lanes.{lane_of, tape_of, refused};
+ghost use Rattle.mls_model.specs.Lanes.{lane_of, tape_of, tape_bytes, refused};
 ghost use Rattle.mls_model.specs.Outcomes.{outcomes};
 ghost use Rattle.mls_model.specs.ResultText.{result_text};
 ghost use Rattle.mls_model.specs.Schedules.{plain};
 ghost use Rattle.mls_examples.specs.Small.{small_study, sent, client_lane};
-ghost use Rattle.mls_examples.specs.Lanes.{piece_0_bytes, no_lane_tape, tape_with, cut_bytes, ended, no_event, cut_text, bad_kind_text, foreign_lanes, foreign_text, empty_piece, empty_piece_bytes, huge_piece_bytes, empty_piece_text, group_frames, wrong_kinds, faulty_lanes};
+ghost use Rattle.mls_examples.specs.Lanes.{save_bytes, one_save, two_groups_lane, two_groups_frames, two_groups_tape, signed_no_lane_tape, piece_0_bytes, no_lane_tape, tape_with, cut_bytes, ended, no_event, cut_text, bad_kind_text, foreign_lanes, foreign_text, empty_piece, empty_piece_bytes, huge_piece_bytes, empty_piece_text, group_frames, wrong_kinds, faulty_lanes};
 ghost use Rattle.mls_examples.specs.Ranks.{survivors};
 
 /// A piece of three samples has 35 bytes. Each proper prefix of them is too little to tell.
@@ -71,6 +71,9 @@ pub fn hostile_lanes()
     ensures too_long { lane_of 0 Client (4 ∷ 0 ∷ 0 ∷ 1 ∷ []) ≡ no_event (BadLength 0) }
     ensures unknown { lane_of 0 Client (0 ∷ 0 ∷ 0 ∷ 1 ∷ 10 ∷ []) ≡ no_event (BadKind 0) }
     ensures even { lane_of 0 Client (0 ∷ 0 ∷ 0 ∷ 0x1a ∷ 1 ∷ []) ≡ no_event (BadLength 0) }
+    ensures bad_size { lane_of 0 Client (0 ∷ 0 ∷ 0 ∷ 2 ∷ 4 ∷ []) ≡ no_event (BadLength 0) }
+    ensures cut_after_one { lane_of 0 Client (save_bytes ++ 0 ∷ 0 ∷ []) ≡ one_save (Cut 5) }
+    ensures bad_after_one { lane_of 0 Client (save_bytes ++ 0 ∷ 0 ∷ 0 ∷ 1 ∷ 9 ∷ []) ≡ one_save (BadKind 5) }
     ensures huge { lane_of 0 Client huge_piece_bytes ≡ no_event (BadLength 0) }
     ensures empty { lane_of 0 Client empty_piece_bytes ≡ client_lane (piece empty_piece ∷ []) }
     ensures empty_text { result_text small_study (client_lane (piece empty_piece ∷ []) ∷ []) (plain 1 (client_lane (piece empty_piece ∷ []) ∷ [])) ≡ empty_piece_text }
@@ -88,4 +91,16 @@ pub fn refused_tapes()
     ensures rank { tape_of 1 false (tape_with (1 ∷ 0 ∷ 1 ∷ 0 ∷ 0 ∷ 0 ∷ 0 ∷ [])) ≡ refused 11 why.LaneRank }
     ensures length { tape_of 1 false (tape_with (1 ∷ 0 ∷ 0 ∷ 0 ∷ 0 ∷ 0 ∷ [])) ≡ refused 13 why.Cut }
     ensures bytes { tape_of 1 false (tape_with (1 ∷ 0 ∷ 0 ∷ 0 ∷ 0 ∷ 0 ∷ 2 ∷ 7 ∷ [])) ≡ refused 17 why.Cut }
+{}
+
+/// A tape is spelled in one way for each version, and what was spelled is read again.
+pub fn spelled_tapes()
+    ensures no_lane { tape_bytes false 1 [] ≡ no_lane_tape }
+    ensures signed { tape_bytes true 2 [] ≡ signed_no_lane_tape }
+    ensures spelled { tape_bytes false 1 (two_groups_lane ∷ []) ≡ two_groups_tape }
+    ensures size { length two_groups_tape ≡ 87 }
+    ensures read { tape_of 1 false two_groups_tape ≡ Ok (client_lane two_groups_frames ∷ []) }
+    ensures read_signed { tape_of 1 true (tape_bytes true 2 []) ≡ Ok [] }
+    ensures old_version { tape_of 1 true no_lane_tape ≡ refused 4 why.Version }
+    ensures other_samples { tape_of 1 false signed_no_lane_tape ≡ refused 6 why.Samples }
 {}

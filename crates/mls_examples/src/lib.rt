@@ -5,11 +5,13 @@
 #![tactic(auto)]
 
 pub mod assembly;
+pub mod checkpoints;
 pub mod crashes;
 pub mod designs;
 pub mod fields;
 pub mod lanes;
 pub mod samples;
+pub mod schedules;
 pub mod statistics;
 pub mod studies;
 pub mod sums;

@@ -5,3 +5,4 @@ pub mod Steady
 pub mod Takes
 pub mod Theorems
 pub mod Within
+pub mod Feeding

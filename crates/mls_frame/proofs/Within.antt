@@ -1,8 +1,8 @@
 -- How many bytes a whole frame has.
 use Rattle.std.proofs.Common.{◌≡◌, ℕ, ◌≤◌, List, length, sym, arith}
 use Rattle.mls_model.specs.Frames.{Frame, piece, beat, bye, save, crash, hello, welcome, refuse, body, spelling, sight}
-use Rattle.mls_frame.specs.declared.seeing.Seen.{Seen}
-use Rattle.mls_frame.specs.declared.seeing.Seen.TheVariants as seen
+use Rattle.mls_frame.specs.declared.frame_view.Seen.{Seen}
+use Rattle.mls_frame.specs.declared.frame_view.Seen.TheVariants as seen
 use Rattle.mls_frame.specs.Views.{AreBytes, frame_of, sight_of, IsWithin}
 use Rattle.mls_frame.proofs.Pieces.{piece_body-length}
 use Rattle.mls_frame.proofs.Again.{spelling-length}

@@ -1,2 +1,5 @@
+pub mod Lent
 pub mod Views
 pub mod Owned
+pub mod Feeding
+pub mod FeederLends

@@ -1,14 +1,20 @@
 -- The frame that a view is of, and the sight that an answer of view is.
 use Rattle.std.specs.Prelude.{ℕ, List, ◌<◌, ◌≤◌, slice_index}
-use Rattle.mls_model.specs.Frames.{Frame, piece, beat, bye, save, crash, hello, welcome, refuse, Sight, whole, more, bad}
-use Rattle.mls_frame.specs.declared.seeing.FrameView.{FrameView}
-use Rattle.mls_frame.specs.declared.seeing.FrameView.TheVariants as views
-use Rattle.mls_frame.specs.declared.seeing.Seen.{Seen}
-use Rattle.mls_frame.specs.declared.seeing.Seen.TheVariants as seen
+use Rattle.mls_model.specs.Frames.{Piece, Frame, piece, beat, bye, save, crash, hello, welcome, refuse, Sight, whole, more, bad}
+use Rattle.mls_frame.specs.Lent.{piece_from}
+use Rattle.mls_frame.specs.declared.piece_view.PieceView.{PieceView}
+use Rattle.mls_frame.specs.declared.frame_view.FrameView.{FrameView}
+use Rattle.mls_frame.specs.declared.frame_view.FrameView.TheVariants as views
+use Rattle.mls_frame.specs.declared.frame_view.Seen.{Seen}
+use Rattle.mls_frame.specs.declared.frame_view.Seen.TheVariants as seen
+
+-- the piece
+abbrev pub piece_of : PieceView → Piece
+piece_of p = piece_from p.life p.group p.plane p.client p.rows p.first p.count p.samples.now
 
 -- the frame
 abbrev pub frame_of : FrameView → Frame
-frame_of (views.Piece p) = piece p
+frame_of (views.Piece p) = piece (piece_of p)
 frame_of (views.Beat group life) = beat group life
 frame_of (views.Bye group life) = bye group life
 frame_of views.Save = save

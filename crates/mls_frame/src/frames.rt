@@ -2,6 +2,7 @@
 
 ghost use Rattle.std.specs.Prelude.{◌≡◌, ℕ, ◌+◌, ◌*◌, ◌<◌, ◌≤◌, ◌^◌, List, [], ◌∷◌, ◌++◌, length, OnOk, OnErr};
 ghost use Rattle.std.specs.List.{AllByRecursion};
+ghost use Rattle.mls_model.specs.Frames.{longest_body};
 
 use mls_base::faults::NoMemory;
 use std::alloc::Global;
@@ -39,10 +40,8 @@ impl Samples {
         ensures ok { OnOk result (self.new ≡ self.old ++ x ∷ []) }
         ensures err { OnErr result (self.new ≡ self.old) }
     {
-        match self.items.push(x) {
-            Ok(()) => Ok(()),
-            Err(_) => Err(NoMemory),
-        }
+        self.items.push(x)?;
+        Ok(())
     }
 
     /// The samples as a slice.
@@ -50,13 +49,6 @@ impl Samples {
         ensures value { result.now ≡ self.now }
     {
         self.items.as_slice()
-    }
-
-    /// The number of samples.
-    pub fn len(&self) -> usize
-        ensures { result ≡ length self.now }
-    {
-        self.items.len()
     }
 }
 
@@ -74,7 +66,7 @@ pub struct Piece {
     pub count: u32,
     pub samples: Samples,
     ghost size: { length samples ≡ rows * count },
-    ghost body: { 25 + 2 * (rows * count) ≤ 67108864 },
+    ghost body: { 25 + 2 * (rows * count) ≤ longest_body },
 }
 
 /// A frame: a message of one of eight kinds.

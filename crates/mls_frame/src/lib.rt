@@ -2,18 +2,20 @@
 //! of a frame.
 #![tactic(auto)]
 
+pub mod feeder;
+pub mod frame_view;
 pub mod frames;
 pub mod laws;
 mod numbers;
 pub mod piece_view;
 pub mod putting;
-pub mod seeing;
 
+pub use feeder::Feeder;
+pub use frame_view::{FrameView, Seen, view};
 pub use frames::{Frame, Piece, Samples};
 pub use mls_model::lanes::FrameFault;
 pub use piece_view::PieceView;
 pub use putting::put;
-pub use seeing::{FrameView, Seen, view};
 
 #[cfg(test)]
 mod tests;

@@ -3,10 +3,11 @@
 ghost use Rattle.std.specs.Prelude.{◌≡◌, ℕ, ◌+◌, ◌*◌, ◌<◌, ◌≤◌, length, slice_index};
 ghost use Rattle.std.specs.Int.{w16, w32};
 ghost use Rattle.mls_model.specs.Frames.{IsPiece, number, piece_in, longest_body};
+ghost use Rattle.mls_frame.specs.Lent.{piece_from};
+ghost use Rattle.std.proofs.Props.{props};
 
 use crate::numbers::{number_16, number_32};
 use mls_base::rows::Rows;
-use std::marker::Model;
 
 /// A piece of a group's timestep as it lies in the bytes that spell it. It holds no sample of its own: the
 /// samples are lent from those bytes, two bytes each, row by row.
@@ -20,25 +21,18 @@ pub struct PieceView<'a> {
     first: u32,
     count: u32,
     samples: &'a [u8],
-}
-
-impl<'a> Model for PieceView<'a> {
-    ghost use Rattle.std.specs.Prelude.{◌≡◌, ℕ, ◌+◌, ◌*◌, ◌≤◌, length};
-    ghost use Rattle.mls_model.specs.Frames.{Piece, IsPiece, samples_in};
-
-    ghost Value = { Piece };
-
-    ghost view = { λ p. record { life = p.life; group = p.group; plane = p.plane; client = p.client; rows = p.rows; first = p.first; count = p.count; samples = samples_in (p.rows * p.count) p.samples.now } };
-
-    ghost invariant = { λ p. (length p.samples.now ≡ 2 * (p.rows * p.count)) × IsPiece (record { life = p.life; group = p.group; plane = p.plane; client = p.client; rows = p.rows; first = p.first; count = p.count; samples = samples_in (p.rows * p.count) p.samples.now }) };
+    ghost size: { length samples.now ≡ 2 * (rows * count) },
+    ghost fits: { IsPiece (piece_from life group plane client rows first count samples.now) } by { Prim.hlevel props },
 }
 
 impl<'a> PieceView<'a> {
+    ghost use Rattle.mls_frame.specs.Views.{piece_of};
+
     /// The piece with these fields, whose samples are lent from them.
     pub(crate) fn of(fields: &'a [u8]) -> PieceView<'a>
         requires samples { 24 + 2 * (number w16 14 fields.now * number w32 20 fields.now) ≤ length fields.now }
         requires body { 25 + 2 * (number w16 14 fields.now * number w32 20 fields.now) ≤ longest_body }
-        ensures { result ≡ piece_in fields.now }
+        ensures { piece_of result ≡ piece_in fields.now }
     {
         let rows = number_16(fields, 14);
         let count = number_32(fields, 20);
@@ -57,60 +51,62 @@ impl<'a> PieceView<'a> {
 
     /// The life of the group that sent the piece.
     pub fn life(&self) -> u32
-        ensures { result ≡ self.now.life }
+        ensures { result ≡ (piece_of self.now).life }
     {
         self.life
     }
 
     /// The group that the piece is of.
     pub fn group(&self) -> u32
-        ensures { result ≡ self.now.group }
+        ensures { result ≡ (piece_of self.now).group }
     {
         self.group
     }
 
     /// The number of the plane that the piece is of.
     pub fn step(&self) -> u32
-        ensures { result ≡ self.now.plane }
+        ensures { result ≡ (piece_of self.now).plane }
     {
         self.plane
     }
 
     /// The client that sent the piece.
     pub fn client(&self) -> u16
-        ensures { result ≡ self.now.client }
+        ensures { result ≡ (piece_of self.now).client }
     {
         self.client
     }
 
     /// The first cell of the mesh that the piece has samples of.
     pub fn first(&self) -> u32
-        ensures { result ≡ self.now.first }
+        ensures { result ≡ (piece_of self.now).first }
     {
         self.first
     }
 
     /// The number of cells.
     pub fn count(&self) -> u32
-        ensures { result ≡ self.now.count }
+        ensures { result ≡ (piece_of self.now).count }
     {
         self.count
     }
 
     /// The piece fits its fields and the longest body.
     pub fn valid(&self)
-        ensures { IsPiece self.now }
+        ensures { IsPiece (piece_of self.now) }
     {
         let _ = &self.life;
     }
 }
 
 impl<'a> Rows for PieceView<'a> {
-    ghost row_count = { λ p. p.rows };
+    ghost use Rattle.mls_frame.specs.Views.{piece_of};
 
-    ghost place_count = { λ p. p.count };
+    ghost row_count = { λ p. (piece_of p).rows };
 
-    ghost sample = { λ p row place. slice_index p.samples (row * p.count + place) };
+    ghost place_count = { λ p. (piece_of p).count };
+
+    ghost sample = { λ p row place. slice_index (piece_of p).samples (row * (piece_of p).count + place) };
 
     #[inline]
     fn rows(&self) -> u32 {

@@ -2,10 +2,11 @@
 
 ghost use Rattle.std.specs.Prelude.{◌≡◌, ℕ, ◌+◌, ◌*◌, ◌<◌, ◌≤◌, ◌^◌, [], ◌∷◌, ◌++◌, length, OnOk, OnErr, vec_len, vec_capacity};
 ghost use Rattle.std.specs.List.{flat_map};
-ghost use Rattle.mls_model.specs.Frames.{u16, u32, body, spelling, piece_head, IsFrame, IsPiece};
+ghost use Rattle.mls_model.specs.Frames.{u16, u32, piece as piece_frame, hello, body, spelling, piece_head, longest_body, IsFrame, IsPiece};
 ghost use Rattle.mls_frame.specs.Owned.{owned_frame, owned_piece};
 
 use crate::frames::{Frame, Piece};
+use byteorder::{BigEndian, ByteOrder};
 use mls_base::faults::NoMemory;
 
 /// Appends bytes for which there is room.
@@ -21,26 +22,49 @@ fn add(out: &mut Vec<u8>, bytes: &[u8])
     }
 }
 
+fn add_16(out: &mut Vec<u8>, number: u16)
+    requires { vec_len out.old + 2 ≤ vec_capacity out.old }
+    ensures items { out.new.items ≡ out.old.items ++ u16 number }
+    ensures len { vec_len out.new ≡ vec_len out.old + 2 }
+    ensures room { vec_capacity out.old ≤ vec_capacity out.new }
+{
+    let mut bytes = [0; 2];
+    BigEndian::write_u16(&mut bytes, number);
+    add(out, &bytes);
+}
+
+fn add_32(out: &mut Vec<u8>, number: u32)
+    requires { vec_len out.old + 4 ≤ vec_capacity out.old }
+    ensures items { out.new.items ≡ out.old.items ++ u32 number }
+    ensures len { vec_len out.new ≡ vec_len out.old + 4 }
+    ensures room { vec_capacity out.old ≤ vec_capacity out.new }
+{
+    let mut bytes = [0; 4];
+    BigEndian::write_u32(&mut bytes, number);
+    add(out, &bytes);
+}
+
 /// Appends a kind byte with a group and a life.
 fn add_sign(out: &mut Vec<u8>, kind: u8, group: u32, life: u32)
     requires { vec_len out.old + 9 ≤ vec_capacity out.old }
     ensures { out.new.items ≡ out.old.items ++ (kind ∷ (u32 group ++ u32 life)) }
 {
     add(out, &[kind]);
-    add(out, &group.to_be_bytes());
-    add(out, &life.to_be_bytes());
+    add_32(out, group);
+    add_32(out, life);
 }
 
+#[tactic(auto, unfolding(mls_model::specs::Frames::body))]
 fn add_hello(out: &mut Vec<u8>, version: u16, group: u32, life: u32, client: u16, rank: u16)
     requires { vec_len out.old + 15 ≤ vec_capacity out.old }
-    ensures { out.new.items ≡ out.old.items ++ (6 ∷ (u16 version ++ (u32 group ++ (u32 life ++ (u16 client ++ u16 rank))))) }
+    ensures { out.new.items ≡ out.old.items ++ body (hello version group life client rank) }
 {
     add(out, &[6]);
-    add(out, &version.to_be_bytes());
-    add(out, &group.to_be_bytes());
-    add(out, &life.to_be_bytes());
-    add(out, &client.to_be_bytes());
-    add(out, &rank.to_be_bytes());
+    add_16(out, version);
+    add_32(out, group);
+    add_32(out, life);
+    add_16(out, client);
+    add_16(out, rank);
 }
 
 fn add_samples(out: &mut Vec<u8>, samples: &[u16])
@@ -48,10 +72,11 @@ fn add_samples(out: &mut Vec<u8>, samples: &[u16])
     ensures { out.new.items ≡ out.old.items ++ flat_map u16 samples.now }
 {
     for x in samples {
-        add(out, &x.to_be_bytes());
+        add_16(out, *x);
     }
 }
 
+/// Appends the fields of a piece before its samples.
 #[tactic(auto, unfolding(mls_model::specs::Frames::piece_head))]
 fn add_head(out: &mut Vec<u8>, piece: &Piece)
     requires { vec_len out.old + 24 ≤ vec_capacity out.old }
@@ -59,19 +84,20 @@ fn add_head(out: &mut Vec<u8>, piece: &Piece)
     ensures len { vec_len out.new ≡ vec_len out.old + 24 }
     ensures room { vec_capacity out.old ≤ vec_capacity out.new }
 {
-    add(out, &piece.life.to_be_bytes());
-    add(out, &piece.group.to_be_bytes());
-    add(out, &piece.step.to_be_bytes());
-    add(out, &piece.client.to_be_bytes());
-    add(out, &piece.rows.to_be_bytes());
-    add(out, &piece.first.to_be_bytes());
-    add(out, &piece.count.to_be_bytes());
+    add_32(out, piece.life);
+    add_32(out, piece.group);
+    add_32(out, piece.step);
+    add_16(out, piece.client);
+    add_16(out, piece.rows);
+    add_32(out, piece.first);
+    add_32(out, piece.count);
 }
 
 /// Appends the body of a piece.
+#[tactic(auto, unfolding(mls_model::specs::Frames::body))]
 fn add_piece(out: &mut Vec<u8>, piece: &Piece)
     requires { vec_len out.old + (25 + 2 * length piece.now.samples) ≤ vec_capacity out.old }
-    ensures { out.new.items ≡ out.old.items ++ (1 ∷ (piece_head (owned_piece piece.now) ++ flat_map u16 piece.now.samples)) }
+    ensures { out.new.items ≡ out.old.items ++ body (piece_frame (owned_piece piece.now)) }
 {
     add(out, &[1]);
     add_head(out, piece);
@@ -99,11 +125,11 @@ fn add_body(out: &mut Vec<u8>, frame: &Frame)
         } => add_hello(out, *version, *group, *life, *client, *rank),
         Frame::Welcome { lane } => {
             add(out, &[7]);
-            add(out, &lane.to_be_bytes());
+            add_32(out, *lane);
         }
         Frame::Refuse { reason, value } => {
             add(out, &[8, *reason]);
-            add(out, &value.to_be_bytes());
+            add_32(out, *value);
         }
     }
 }
@@ -112,7 +138,7 @@ fn add_body(out: &mut Vec<u8>, frame: &Frame)
 #[tactic(auto, unfolding(mls_model::specs::Frames::body))]
 fn body_length(frame: &Frame) -> u32
     ensures exact { result ≡ length (body (owned_frame frame.now)) }
-    ensures bound { result ≤ 67108864 }
+    ensures bound { result ≤ longest_body }
 {
     match frame {
         Frame::Piece(piece) => 25 + 2 * (piece.rows as u32 * piece.count),
@@ -133,11 +159,8 @@ pub fn put(frame: &Frame, out: &mut Vec<u8>) -> Result<(), NoMemory>
     ensures full { OnErr result (vec_capacity out.old < vec_len out.old + length (spelling (owned_frame frame.now))) }
 {
     let size = body_length(frame);
-    match out.reserve(4 + size as usize) {
-        Ok(()) => {}
-        Err(_) => return Err(NoMemory),
-    }
-    add(out, &size.to_be_bytes());
+    out.reserve(4 + size as usize)?;
+    add_32(out, size);
     add_body(out, frame);
     Ok(())
 }

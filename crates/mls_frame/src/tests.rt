@@ -27,6 +27,17 @@ fn first_piece(alloc: Global) -> Result<Frame, NoMemory> {
     }))
 }
 
+/// The sum of the samples of a block, by its places.
+fn total<R: Rows>(rows: &R) -> u64 {
+    let mut sum = 0u64;
+    for row in 0..rows.rows() {
+        for cell in 0..rows.cells() {
+            sum = sum.wrapping_add(rows.at(row, cell) as u64);
+        }
+    }
+    sum
+}
+
 #[test]
 fn vector_is_put(rt: HostRuntime) -> Result<(), Fail> {
     let frame = first_piece(rt.alloc()).ok().ok_or("memory")?;
@@ -52,75 +63,18 @@ fn vector_is_seen(rt: HostRuntime) -> Result<(), Fail> {
     assert_eq!(rt; piece.rows(), 3);
     assert_eq!(rt; piece.first(), 0);
     assert_eq!(rt; piece.count(), 1);
-    Ok(())
-}
-
-/// The sum of the samples of a block, by its places.
-fn total<R: Rows>(rows: &R) -> u64 {
-    let mut sum = 0u64;
-    for row in 0..rows.rows() {
-        for cell in 0..rows.cells() {
-            sum = sum.wrapping_add(rows.at(row, cell) as u64);
-        }
-    }
-    sum
-}
-
-#[test]
-fn samples_are_lent(rt: HostRuntime) -> Result<(), Fail> {
-    let Seen::Whole { frame, .. } = view(&VECTOR) else {
-        return Err("the vector is a frame")?;
-    };
-    let FrameView::Piece(piece) = frame else {
-        return Err("the vector is a piece")?;
-    };
     assert_eq!(rt; total(&piece), 7);
     Ok(())
 }
 
-/// A word for what is seen: 0 a frame, 1 too little, 2 a bad kind, 3 a bad length.
-fn word(seen: &Seen<'_>) -> u8 {
-    match seen {
-        Seen::Whole { .. } => 0,
-        Seen::More => 1,
-        Seen::Bad(FrameFault::BadKind) => 2,
-        Seen::Bad(FrameFault::BadLength) => 3,
-    }
-}
-
 #[test]
-fn fronts_tell_too_little(rt: HostRuntime) {
-    for size in 0..35usize {
-        assert_eq!(rt; word(&view(&VECTOR[..size])), 1);
-    }
-}
-
-#[test]
-fn hostile_bytes(rt: HostRuntime) {
-    let table: [(&[u8], u8); 9] = [
-        (&[0, 0, 0, 0], 3),
-        (&[4, 0, 0, 1], 3),
-        (&[0, 0, 0, 1, 10], 2),
-        (&[0, 0, 0, 0x1a, 1], 3),
-        (
-            &[
-                0, 0, 0, 0x1b, 1, 0, 0, 0, 0, 0, 0, 0, 0, 0, 0, 0, 0, 0, 0, 0xff, 0xff, 0, 0, 0, 0,
-                0xff, 0xff, 0xff, 0xff,
-            ],
-            3,
-        ),
-        (
-            &[
-                0, 0, 0, 0x19, 1, 0, 0, 0, 0, 0, 0, 0, 0, 0, 0, 0, 0, 0, 0, 0, 0, 0, 0, 0, 0, 0, 0,
-                0, 0,
-            ],
-            0,
-        ),
-        (&[0, 0, 0, 1, 4], 0),
-        (&[0, 0, 0, 2, 4], 3),
-        (&[0, 0, 0, 6, 8, 2, 0, 0, 0, 7], 0),
-    ];
-    for (bytes, expected) in table {
-        assert_eq!(rt; word(&view(bytes)), expected);
-    }
+fn frame_is_fed_in_two_pieces(rt: HostRuntime) -> Result<(), Fail> {
+    let mut feeder = Feeder::new(rt.alloc());
+    feeder.feed(&VECTOR[..20]).ok().ok_or("memory")?;
+    assert!(rt; matches!(feeder.next(), Seen::More));
+    feeder.feed(&VECTOR[20..]).ok().ok_or("memory")?;
+    assert!(rt; matches!(feeder.next(), Seen::Whole { used: 35, .. }));
+    assert_eq!(rt; feeder.offset(), 35);
+    assert_eq!(rt; feeder.rest(), 0);
+    Ok(())
 }

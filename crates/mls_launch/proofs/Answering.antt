@@ -3,8 +3,8 @@ use Rattle.std.proofs.Common.{◌≡◌, ℕ, zero, suc, ◌+◌, ◌-◌, ◌<�
 use Rattle.std.specs.Prelude.{cond, not, ◌&&◌, ◌||◌, ◌==◌}
 use Rattle.mls_model.specs.declared.launcher.Action.{Action}
 use Rattle.mls_model.specs.declared.launcher.Action.TheVariants.{Start, Restart, GiveUp, RestartRank}
-use Rattle.mls_launch.specs.declared.rows.GroupState.{GroupState}
-use Rattle.mls_launch.specs.declared.rows.GroupState.TheVariants.{Running, GivenUp}
+use Rattle.mls_launch.specs.declared.group_state.GroupState.{GroupState}
+use Rattle.mls_launch.specs.declared.group_state.GroupState.TheVariants.{Running, GivenUp}
 use Rattle.mls_launch.specs.Safety.{lives_begun}
 use Rattle.mls_launch.specs.Rows.{is_due, answer_for, stays_on, is_waiting}
 use Rattle.mls_launch.proofs.Facts.{Facts, run_facts, wait_facts, fact_did}

@@ -9,8 +9,8 @@ use Rattle.std.specs.Prelude.{cond}
 use Rattle.mls_model.specs.Numbers.{below}
 use Rattle.mls_model.specs.declared.launcher.Action.{Action}
 use Rattle.mls_model.specs.declared.launcher.Action.TheVariants.{Start, RestartRank}
-use Rattle.mls_launch.specs.declared.rows.GroupState.{GroupState}
-use Rattle.mls_launch.specs.declared.rows.GroupState.TheVariants.{Waiting}
+use Rattle.mls_launch.specs.declared.group_state.GroupState.{GroupState}
+use Rattle.mls_launch.specs.declared.group_state.GroupState.TheVariants.{Waiting}
 use Rattle.mls_launch.specs.Rows.{chosen, ranks_due, groups_due, staying, starts_due, is_due, answer_for, stays_on, is_waiting}
 
 pub chosen_suc : (p : ℕ → Bool) (k : ℕ) → chosen p (suc k) ≡ chosen p k ++ cond (p k) (k ∷ []) []

@@ -7,7 +7,7 @@ use Rattle.std.proofs.lemmas.List.Sums.{length-filter}
 use Rattle.mls_model.specs.Numbers.{below}
 use Rattle.mls_model.specs.Studies.{Sizes, AreSizes}
 use Rattle.mls_model.specs.declared.launcher.Event.{Event}
-use Rattle.mls_launch.specs.declared.rows.GroupState.{GroupState}
+use Rattle.mls_launch.specs.declared.group_state.GroupState.{GroupState}
 use Rattle.mls_launch.specs.declared.totals.Totals.{Totals}
 use Rattle.mls_model.specs.Pasts.{Entry, runs, waits, is_finished, is_given_up}
 use Rattle.mls_model.specs.Launcher.{past_of}

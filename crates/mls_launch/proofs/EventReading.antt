@@ -1,6 +1,8 @@
 -- The reader of an events file reads exactly the lines of events.
 use Rattle.std.proofs.Common.{◌≡◌, ℕ, suc, ◌-◌, ◌+◌, ◌^◌, ◌<◌, ◌≤◌, List, [], ◌∷◌, ◌++◌, length, take, drop, refl, sym, ap, ◌∙◌, subst, inl, inr, arith, append_assoc, length-append, Option, Some, None, Result, Ok, Err}
-use Rattle.std.specs.Prelude.{cond, ◌==◌, codes, decimal}
+use Rattle.std.specs.Prelude.{cond, ◌==◌, codes, decimal, true, false, MatchOption}
+use Rattle.std.specs.Borrow.{Bor}
+use Rattle.std.specs.Str.{bytes_eq}
 use Rattle.std.specs.List.{AllByRecursion}
 use Rattle.std.specs.Option.{option_and_then}
 use Rattle.std.proofs.lemmas.Bool.{cases_Bool}
@@ -10,7 +12,8 @@ use Rattle.mls_model.specs.declared.launcher.Event.TheVariants.{Tick, Beat, Done
 use Rattle.mls_launch.specs.EventsText.{event_line, IsEvent, events_text, IsRefusedAt}
 use Rattle.mls_launch.specs.EventReading.{prepended, events_from, events_of, after_in, behind, tick_in, rank_in, life_in, event_in}
 use Rattle.mls_launch.proofs.Picking.{eq_same, eq_true}
-use Rattle.mls_text.specs.Fronts.{number_before}
+use Rattle.mls_text.specs.Fronts.{number_before, seen_rest}
+use Rattle.mls_text.proofs.Decimals.{bytes_true, bytes_false}
 use Rattle.mls_text.proofs.Fronts.{take_front, first_same, second_same, number_before_is, number_before_found, two_parts}
 
 -- a front
@@ -40,6 +43,11 @@ pub after_there : (front bytes : List ℕ) → take (length front) bytes ≡ fro
 after_there front bytes e =
     ap (after_in front) (sym (take-append-drop (length front) bytes) ∙ ap (λ l. l ++ drop (length front) bytes) e)
     ∙ after_front front (drop (length front) bytes)
+
+-- what is left of bytes whose front was taken away
+pub stripped : (front bytes : List ℕ) (r : Option (Bor (List ℕ))) → MatchOption r (bytes_eq (take (length front) bytes) front ≡ false) (λ rest. (bytes_eq (take (length front) bytes) front ≡ true) × (rest.now ≡ drop (length front) bytes) × (length rest.now + length front ≡ length bytes)) → seen_rest r ≡ after_in front bytes
+stripped front bytes None other = sym (after_none front bytes (λ long e. bytes_false (take (length front) bytes) front _ refl other e))
+stripped front bytes (Some rest) there = ap Some there.1 ∙ sym (after_there front bytes (bytes_true (take (length front) bytes) front _ refl there.0))
 
 -- what stands behind the words
 tick_in_is : (now : ℕ) (rest : List ℕ) → now < 2 ^ 32 → tick_in (decimal now ++ 10 ∷ rest) ≡ Some (Tick now, rest)

@@ -2,8 +2,8 @@
 use Rattle.std.proofs.Common.{◌≡◌, ℕ, List, [], replicate, refl, sym, ap, ◌∙◌, subst}
 use Rattle.std.proofs.lemmas.List.{length-replicate, get_or-replicate}
 use Rattle.mls_model.specs.Studies.{Sizes}
-use Rattle.mls_launch.specs.declared.rows.GroupState.{GroupState}
-use Rattle.mls_launch.specs.declared.rows.GroupState.TheVariants.{Waiting}
+use Rattle.mls_launch.specs.declared.group_state.GroupState.{GroupState}
+use Rattle.mls_launch.specs.declared.group_state.GroupState.TheVariants.{Waiting}
 use Rattle.mls_model.specs.Pasts.{time_of, has_done, is_finished, rank_last}
 use Rattle.mls_model.specs.Launcher.{past_after}
 use Rattle.mls_launch.specs.Rows.{row_of, StandsFor}

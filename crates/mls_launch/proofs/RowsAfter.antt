@@ -2,7 +2,7 @@
 use Rattle.std.proofs.Common.{◌≡◌, ℕ, ◌+◌, ◌<◌, List, [], ◌∷◌, ◌++◌, length, take, refl, ap, ◌∙◌, get_or}
 use Rattle.std.proofs.lemmas.List.{take_more}
 use Rattle.mls_model.specs.declared.launcher.Action.{Action}
-use Rattle.mls_launch.specs.declared.rows.GroupState.{GroupState}
+use Rattle.mls_launch.specs.declared.group_state.GroupState.{GroupState}
 use Rattle.mls_launch.specs.Rows.{lasts_with, rows_with, lasts_after, rows_after}
 
 pub lasts_after_append : (time : ℕ) (lasts : List ℕ) (xs ys : List Action) → lasts_after time lasts (xs ++ ys) ≡ lasts_after time (lasts_after time lasts xs) ys

@@ -5,8 +5,8 @@ use Rattle.mls_model.specs.declared.launcher.Event.{Event}
 use Rattle.mls_model.specs.declared.launcher.Event.TheVariants.{Tick, Beat, Done, RankBeat}
 use Rattle.mls_model.specs.declared.launcher.Action.{Action}
 use Rattle.mls_model.specs.declared.launcher.Action.TheVariants.{Restart, GiveUp}
-use Rattle.mls_launch.specs.declared.rows.GroupState.{GroupState}
-use Rattle.mls_launch.specs.declared.rows.GroupState.TheVariants.{Waiting, Running, Finished, GivenUp}
+use Rattle.mls_launch.specs.declared.group_state.GroupState.{GroupState}
+use Rattle.mls_launch.specs.declared.group_state.GroupState.TheVariants.{Waiting, Running, Finished, GivenUp}
 use Rattle.mls_launch.specs.Safety.{lives_begun}
 use Rattle.mls_launch.specs.Rows.{row_beat, row_done}
 use Rattle.mls_launch.proofs.Facts.{Facts, run_facts, wait_facts, fact_did, fact_came}

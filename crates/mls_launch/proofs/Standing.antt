@@ -10,8 +10,8 @@ use Rattle.mls_model.specs.declared.launcher.Event.{Event}
 use Rattle.mls_model.specs.declared.launcher.Event.TheVariants.{Tick, Beat, Done, RankBeat}
 use Rattle.mls_model.specs.declared.launcher.Action.{Action}
 use Rattle.mls_model.specs.declared.launcher.Action.TheVariants.{Start, Restart, GiveUp, RestartRank}
-use Rattle.mls_launch.specs.declared.rows.GroupState.{GroupState}
-use Rattle.mls_launch.specs.declared.rows.GroupState.TheVariants.{Waiting, Running, GivenUp}
+use Rattle.mls_launch.specs.declared.group_state.GroupState.{GroupState}
+use Rattle.mls_launch.specs.declared.group_state.GroupState.TheVariants.{Waiting, Running, GivenUp}
 use Rattle.mls_model.specs.Pasts.{Entry, came, now_of, time_of, is_of, runs, waits, last_of, is_rank_beat, is_rank_restart, rank_last}
 use Rattle.mls_model.specs.Launcher.{with_actions, is_silent, answer_to, rank_restarts, group_answers, running, starts, answers, tick_actions, is_tick, actions_at, past_with, past_of}
 use Rattle.mls_launch.specs.Rows.{row_of, Table, StandsFor, row_beat, row_done, is_due, answer_for, stays_on, is_waiting, chosen, ranks_due, groups_due, staying, starts_due, due, lasts_with, rows_with, lasts_after, rows_after, lasts_heard, rows_heard, decided, settled, stepped}

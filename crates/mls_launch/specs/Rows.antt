@@ -4,8 +4,8 @@ use Rattle.mls_model.specs.declared.launcher.Event.{Event}
 use Rattle.mls_model.specs.declared.launcher.Event.TheVariants.{Beat, Done, RankBeat}
 use Rattle.mls_model.specs.declared.launcher.Action.{Action}
 use Rattle.mls_model.specs.declared.launcher.Action.TheVariants.{Start, Restart, GiveUp, RestartRank}
-use Rattle.mls_launch.specs.declared.rows.GroupState.{GroupState}
-use Rattle.mls_launch.specs.declared.rows.GroupState.TheVariants.{Waiting, Running, Finished, GivenUp}
+use Rattle.mls_launch.specs.declared.group_state.GroupState.{GroupState}
+use Rattle.mls_launch.specs.declared.group_state.GroupState.TheVariants.{Waiting, Running, Finished, GivenUp}
 use Rattle.mls_model.specs.Numbers.{below}
 use Rattle.mls_model.specs.Studies.{Sizes}
 use Rattle.mls_model.specs.Pasts.{Entry, time_of, has_done, is_start, is_finished, is_given_up, life_of, last_of, rank_last, now_of}

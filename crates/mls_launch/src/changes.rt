@@ -3,7 +3,7 @@
 ghost use Rattle.std.specs.Prelude.{◌≡◌, slice_set};
 ghost use Rattle.mls_launch.specs.Rows.{lasts_with, rows_with, lasts_after, rows_after, lasts_heard, rows_heard, row_at};
 
-use crate::rows::GroupState;
+use crate::group_state::GroupState;
 use mls_model::launcher::{Action, Event};
 
 fn set_last(lasts: &mut [u32], rank: u32, time: u32)
@@ -57,8 +57,16 @@ fn carry_out(lasts: &mut [u32], rows: &mut [GroupState], action: Action, time: u
     ensures rows { rows.new ≡ rows_with time rows.old action }
 {
     match action {
-        Action::Start { group, life } => set_row(rows, group, GroupState::Running { life, last: time }),
-        Action::Restart { group, life } => set_row(rows, group, GroupState::Running { life, last: time }),
+        Action::Start { group, life } => set_row(
+            rows,
+            group,
+            GroupState::Running { life, last: time },
+        ),
+        Action::Restart { group, life } => set_row(
+            rows,
+            group,
+            GroupState::Running { life, last: time },
+        ),
         Action::GiveUp { group } => set_row(rows, group, GroupState::GivenUp),
         Action::RestartRank { rank } => set_last(lasts, rank, time),
     }

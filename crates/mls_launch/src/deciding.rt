@@ -3,7 +3,7 @@
 ghost use Rattle.std.specs.Prelude.{◌≡◌, ◌+◌, ◌-◌, ◌++◌, ◌<◌, ◌≤◌, length, OnOk};
 ghost use Rattle.mls_launch.specs.Rows.{ranks_due, groups_due, staying, starts_due, stays_on};
 
-use crate::rows::GroupState;
+use crate::group_state::GroupState;
 use mls_base::faults::NoMemory;
 use mls_model::launcher::Action;
 
@@ -16,7 +16,8 @@ pub fn restart_ranks(
     actions: &mut Vec<Action>,
 ) -> Result<(), NoMemory>
     requires { length lasts.now ≤ 64 }
-    ensures { OnOk result (actions.new.items ≡ actions.old.items ++ ranks_due silence time lasts.now (length lasts.now)) }
+    ensures { let due = ranks_due silence time lasts.now (length lasts.now) in
+        OnOk result (actions.new.items ≡ actions.old.items ++ due) }
 {
     for (rank, last) in lasts.iter().enumerate() {
         if time.saturating_sub(*last) > silence {
@@ -37,7 +38,8 @@ pub fn answer_groups(
 ) -> Result<(), NoMemory>
     requires groups { length rows.now ≤ 65535 }
     requires lives { lives ≤ 255 }
-    ensures { OnOk result (actions.new.items ≡ actions.old.items ++ groups_due silence lives time rows.now (length rows.now)) }
+    ensures { let due = groups_due silence lives time rows.now (length rows.now) in
+        OnOk result (actions.new.items ≡ actions.old.items ++ due) }
 {
     for (group, row) in rows.iter().enumerate() {
         if row.is_due(silence, time) {
@@ -73,7 +75,8 @@ pub fn start_groups(
 ) -> Result<(), NoMemory>
     requires groups { length rows.now ≤ 65535 }
     requires running { running ≤ 65535 }
-    ensures { OnOk result (actions.new.items ≡ actions.old.items ++ starts_due (slots - running) rows.now (length rows.now)) }
+    ensures { let due = starts_due (slots - running) rows.now (length rows.now) in
+        OnOk result (actions.new.items ≡ actions.old.items ++ due) }
 {
     for (group, row) in rows.iter().enumerate() {
         if running < slots && row.is_waiting() {

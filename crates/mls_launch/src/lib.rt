@@ -6,13 +6,13 @@
 mod changes;
 mod deciding;
 pub mod examples;
-pub mod faults;
+mod faults;
+mod group_state;
 pub mod laws;
-pub mod reading;
-mod rows;
-pub mod totals;
-pub mod watch;
-pub mod writing;
+mod reading;
+mod totals;
+mod watch;
+mod writing;
 
 pub use faults::OutFault;
 pub use mls_model::launcher::{Action, Event, Timed};

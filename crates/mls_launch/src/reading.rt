@@ -34,13 +34,7 @@ impl<T: Drop> From<AllocFailed<T>> for EventFault {
 fn after<'a>(bytes: &'a [u8], front: &[u8]) -> Option<&'a [u8]>
     ensures { seen_rest result ≡ after_in front.now bytes.now }
 {
-    if front.len() <= bytes.len() {
-        let (begin, rest) = bytes.split_at(front.len());
-        if begin == front {
-            return Some(rest);
-        }
-    }
-    None
+    bytes.strip_prefix(front)
 }
 
 #[tactic(auto, unfolding(crate::specs::EventReading::tick_in))]
@@ -105,7 +99,9 @@ pub fn read_events(alloc: Global, bytes: &[u8]) -> Result<Vec<Event>, EventFault
     requires { length bytes.now ≤ 16777216 }
     ensures read { IfOk result (λ events. bytes.now ≡ events_text events.items) }
     ensures refused { IfErr result (λ fault. IsRefused fault bytes.now) }
-    ensures exact { MatchResult result (λ events. events_of bytes.now ≡ Ok events.items) (λ fault. IsExact fault (events_of bytes.now)) }
+    ensures exact { MatchResult result
+        (λ events. events_of bytes.now ≡ Ok events.items)
+        (λ fault. IsExact fault (events_of bytes.now)) }
 {
     let mut events = Vec::new(alloc);
     let mut rest = bytes;

@@ -3,7 +3,7 @@
 ghost use Rattle.std.specs.Prelude.{◌≡◌, ◌≤◌, length, count_by};
 ghost use Rattle.mls_launch.specs.Rows.{is_running, is_waiting, is_done, is_left};
 
-use crate::rows::GroupState;
+use crate::group_state::GroupState;
 
 /// How many groups are at each of their stages.
 #[derive(Clone, Copy, Debug, PartialEq, Eq)]

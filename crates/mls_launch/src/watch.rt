@@ -9,7 +9,7 @@ ghost use Rattle.mls_launch.specs.Writing.{AreTotals};
 
 use crate::changes::{carry_out_all, hear};
 use crate::deciding::{answer_groups, count_staying, restart_ranks, start_groups};
-use crate::rows::GroupState;
+use crate::group_state::GroupState;
 use crate::totals::{Totals, totals_of};
 use mls_base::faults::NoMemory;
 use mls_base::shape::Shape;
@@ -98,9 +98,13 @@ impl Watch {
     /// After `NoMemory` the watch and the actions are as before. A tick takes time in proportion to the groups and
     /// ranks, every other event takes the same time whatever their number.
     pub fn step(&mut self, event: &Event, actions: &mut Vec<Action>) -> Result<u32, NoMemory>
-        ensures stands { OnOk result ((events : List Event) → StandsFor self.old events → StandsFor self.new (events ++ event.now ∷ [])) }
-        ensures actions { OnOk result ((events : List Event) → StandsFor self.old events → actions.new.items ≡ actions.old.items ++ actions_at self.old.sizes (past_of self.old.sizes events) event.now) }
-        ensures time { IfOk result (λ time. (events : List Event) → StandsFor self.old events → time ≡ time_of (came event.now ∷ past_of self.old.sizes events)) }
+        ensures stands { OnOk result
+            ((events : List Event) → StandsFor self.old events → StandsFor self.new (events ++ event.now ∷ [])) }
+        ensures actions { OnOk result ((events : List Event) → StandsFor self.old events →
+            let s = self.old.sizes in
+            actions.new.items ≡ actions.old.items ++ actions_at s (past_of s events) event.now) }
+        ensures time { IfOk result (λ time. (events : List Event) → StandsFor self.old events →
+            time ≡ time_of (came event.now ∷ past_of self.old.sizes events)) }
         ensures sizes { self.new.sizes ≡ self.old.sizes }
         ensures refused { OnErr result (self.new ≡ self.old) }
         ensures kept { OnErr result (actions.new.items ≡ actions.old.items) }
@@ -116,7 +120,8 @@ impl Watch {
     /// How many groups are at each of their stages.
     #[tactic(auto, using(crate::proofs::Counted::totals_are))]
     pub fn totals(&self) -> Totals
-        ensures { (events : List Event) → StandsFor self.now events → AreTotals result self.now.sizes (past_of self.now.sizes events) }
+        ensures { (events : List Event) → StandsFor self.now events →
+            AreTotals result self.now.sizes (past_of self.now.sizes events) }
     {
         self.shape.valid();
         totals_of(&self.rows)

@@ -1,6 +1,7 @@
 -- The surviving events of a history with one more event.
-use Rattle.std.proofs.Common.{◌≡◌, Bool, true, false, not, ◌&&◌, ◌||◌, cond, List, [], ◌∷◌, ◌++◌, refl, ap, sym, ◌∙◌, append_assoc, ⊎_elim}
+use Rattle.std.proofs.Common.{◌≡◌, ℕ, ◌+◌, ◌≤◌, Bool, true, false, not, ◌&&◌, ◌||◌, cond, List, [], ◌∷◌, ◌++◌, length, Option, Some, None, arith, refl, ap, sym, ◌∙◌, append_assoc, ⊎_elim}
 use Rattle.std.specs.List.{list_any}
+use Rattle.std.specs.Prelude.{unwrap_or}
 use Rattle.std.proofs.lemmas.List.{append-nil}
 use Rattle.std.proofs.lemmas.Bool.{cases_Bool, or_parts, or_left, or_right, and_from}
 use Rattle.std.proofs.lemmas.List.Folds.{list_any-append}
@@ -9,9 +10,8 @@ use Rattle.mls_model.specs.Frames.{Frame, piece, beat, bye, save, crash, hello, 
 use Rattle.mls_model.specs.declared.lanes.LaneKind.{LaneKind}
 use Rattle.mls_model.specs.declared.lanes.LaneKind.TheVariants.{Client, Control}
 use Rattle.mls_model.specs.Histories.{LaneEvent}
-use Rattle.mls_model.specs.Survival.{is_save, is_crash, is_save_frame, is_crash_frame, survives, surviving}
-use Rattle.mls_model.specs.Survival.{before_last_save}
-use Rattle.mls_laws.proofs.Places.{all_places_more}
+use Rattle.mls_model.specs.Survival.{is_save, is_crash, is_save_frame, is_crash_frame, survives, surviving, last_save, before_last_save, crash_after_save}
+use Rattle.mls_laws.proofs.Places.{all_places_more, any_place_more}
 
 -- an event with these events before it leaves what stands before them
 abbrev pub spares : List LaneEvent → LaneEvent → Bool
@@ -101,24 +101,56 @@ surviving_append h (e ∷ after) c =
     ∙ (ap (λ xs. xs ++ after) (surviving_more h e parts.0)
     ∙ append_assoc (surviving h) (e ∷ []) after))
 
-no_save_before : (h : List LaneEvent) → list_any is_save h ≡ false → before_last_save h ≡ []
-no_save_before [] s = refl
-no_save_before (e ∷ rest) s =
-    let parts = or_parts (is_save e) (list_any is_save rest) s in rw (parts.1) refl
-
 first_is : (a b : Bool) → (a || b) ≡ true → b ≡ false → a ≡ true
 first_is true b o f = refl
 first_is false b o f = sym f ∙ o
+
+-- without a save nothing stood before the last one
+pub no_last_save : (h : List LaneEvent) → list_any is_save h ≡ false → last_save h ≡ None
+unfolding last_save
+no_last_save [] s = refl
+no_last_save (e ∷ rest) s =
+    let parts = or_parts (is_save e) (list_any is_save rest) s in rw (no_last_save rest parts.1, parts.0) refl
+
+pub no_save_before : (h : List LaneEvent) → list_any is_save h ≡ false → before_last_save h ≡ []
+no_save_before h s = ap (λ o. unwrap_or o []) (no_last_save h s)
+
+nothing_saved : before_last_save [] ≡ []
+unfolding last_save
+nothing_saved = refl
+
+-- with a save something did
+some_last_save : (h : List LaneEvent) → list_any is_save h ≡ true → (before : List LaneEvent) × (last_save h ≡ Some before)
+unfolding last_save
+some_last_save [] s = absurd cc
+some_last_save (e ∷ rest) s = ⊎_elim
+    (λ t. let last = some_last_save rest t in (e ∷ last.0, rw (last.1) refl))
+    (λ f. ([], rw (no_last_save rest f, first_is (is_save e) (list_any is_save rest) s f) refl))
+    (cases_Bool (list_any is_save rest))
+
+-- where a save comes later, an event stood before the last one
+stood : (e : LaneEvent) (rest : List LaneEvent) → list_any is_save rest ≡ true → before_last_save (e ∷ rest) ≡ e ∷ before_last_save rest
+unfolding last_save
+stood e rest t = let last = some_last_save rest t in rw (last.1) refl
+
+none_of : (b : Bool) (none : List LaneEvent) → unwrap_or (cond b (Some none) None) none ≡ none
+none_of true none = refl
+none_of false none = refl
+
+-- where none comes later, it did not
+stood_not : (e : LaneEvent) (rest : List LaneEvent) → list_any is_save rest ≡ false → before_last_save (e ∷ rest) ≡ []
+unfolding last_save
+stood_not e rest f = rw (no_last_save rest f) (none_of (is_save e) [])
 
 -- where there is a save, a place survives the history exactly where it survives what comes before the last save
 spared_before_save : (before after : List LaneEvent) → list_any is_save after ≡ true → all_places spares before after ≡ all_places spares before (before_last_save after)
 unfolding all_places
 spared_before_save before [] s = absurd cc
 spared_before_save before (e ∷ rest) s = ⊎_elim
-    (λ t. rw t (ap (λ b. spares before e && b) (spared_before_save (before ++ e ∷ []) rest t)))
+    (λ t. rw (stood e rest t) (ap (λ b. spares before e && b) (spared_before_save (before ++ e ∷ []) rest t)))
     (λ f.
     let here : is_save e ≡ true = first_is (is_save e) (list_any is_save rest) s f in
-    rw f (and_from _ _ (spares_no_crash before e (save_no_crash e here)) (spared_after_save (before ++ e ∷ []) rest (list_any-append is_save before (e ∷ []) ∙ or_right (list_any is_save before) (list_any is_save (e ∷ [])) (or_left (is_save e) false here)))))
+    rw (stood_not e rest f) (and_from _ _ (spares_no_crash before e (save_no_crash e here)) (spared_after_save (before ++ e ∷ []) rest (list_any-append is_save before (e ∷ []) ∙ or_right (list_any is_save before) (list_any is_save (e ∷ [])) (or_left (is_save e) false here)))))
     (cases_Bool (list_any is_save rest))
 
 survives_before_save : (after : List LaneEvent) → list_any is_save after ≡ true → survives after ≡ survives (before_last_save after)
@@ -128,30 +160,45 @@ survives_before_save after s = spared_before_save [] after s
 -- one more event that is a crash
 pub surviving_crash : (h : List LaneEvent) (e : LaneEvent) → is_crash e ≡ true → surviving (h ++ e ∷ []) ≡ surviving (before_last_save h) ++ e ∷ []
 unfolding surviving
-surviving_crash [] e c = rw (survives_no_crash [] refl) refl
+surviving_crash [] e c = rw (survives_no_crash [] refl, nothing_saved) refl
 surviving_crash (x ∷ after) e c = ⊎_elim
-    (λ t. rw (survives_more after e, and_true (survives after) (spares after e) (spares_crash after e c ∙ t), surviving_crash after e c, t, survives_before_save after t)
+    (λ t. rw (survives_more after e, and_true (survives after) (spares after e) (spares_crash after e c ∙ t), surviving_crash after e c, stood x after t, survives_before_save after t)
     (push_cond (survives (before_last_save after)) x e (surviving (before_last_save after))))
-    (λ f. rw (survives_more after e, and_comm_false (survives after) (spares after e) (spares_crash after e c ∙ f), surviving_crash after e c, f, no_save_before after f) refl)
+    (λ f. rw (survives_more after e, and_comm_false (survives after) (spares after e) (spares_crash after e c ∙ f), surviving_crash after e c, stood_not x after f, no_save_before after f) refl)
     (cases_Bool (list_any is_save after))
 
-same_cond : (b : Bool) (r : List LaneEvent) → r ≡ cond b r r
-same_cond true r = refl
-same_cond false r = refl
-
-settled : (b c : Bool) (x : LaneEvent) (rest front : List LaneEvent) → cond (c || (b || false)) (x ∷ cond b rest front) [] ≡ cond b (x ∷ rest) (cond c (x ∷ front) [])
-settled true true x rest front = refl
-settled true false x rest front = refl
-settled false true x rest front = refl
-settled false false x rest front = refl
+later : (b : Bool) (x : LaneEvent) (rest : List LaneEvent) (o first : Option (List LaneEvent))
+    → elim (cond b (Some rest) o) [ Some before ↦ Some (x ∷ before) | None ↦ first ] ≡ cond b (Some (x ∷ rest)) (elim o [ Some before ↦ Some (x ∷ before) | None ↦ first ])
+later true x rest o first = refl
+later false x rest o first = refl
 
 -- what the last save saw, with one more event
+pub last_save_more : (h : List LaneEvent) (e : LaneEvent) → last_save (h ++ e ∷ []) ≡ cond (is_save e) (Some h) (last_save h)
+unfolding last_save
+last_save_more [] e = refl
+last_save_more (x ∷ rest) e = rw (last_save_more rest e) (later (is_save e) x rest (last_save rest) (cond (is_save x) (Some []) None))
+
+kept_by : (b : Bool) (h : List LaneEvent) (o : Option (List LaneEvent)) → unwrap_or (cond b (Some h) o) [] ≡ cond b h (unwrap_or o [])
+kept_by true h o = refl
+kept_by false h o = refl
+
 pub before_last_save_more : (h : List LaneEvent) (e : LaneEvent) → before_last_save (h ++ e ∷ []) ≡ cond (is_save e) h (before_last_save h)
-before_last_save_more [] e = same_cond (is_save e) []
-before_last_save_more (x ∷ rest) e =
-    ap (λ b. cond b (x ∷ before_last_save (rest ++ e ∷ [])) []) (list_any-append is_save rest (e ∷ []))
-    ∙ (ap (λ r. cond (list_any is_save rest || (is_save e || false)) (x ∷ r) []) (before_last_save_more rest e)
-    ∙ settled (is_save e) (list_any is_save rest) x rest (before_last_save rest))
+before_last_save_more h e = ap (λ o. unwrap_or o []) (last_save_more h e) ∙ kept_by (is_save e) h (last_save h)
+
+-- whether a crash stands behind a save, with one more event
+pub crash_after_save_more : (h : List LaneEvent) (e : LaneEvent) → crash_after_save (h ++ e ∷ []) ≡ (crash_after_save h || (is_crash e && list_any is_save h))
+unfolding crash_after_save
+crash_after_save_more h e = any_place_more (λ before x. is_crash x && list_any is_save before) [] h e
+
+few_of : (b : Bool) (e : LaneEvent) (kept : List LaneEvent) (n : ℕ) → length kept ≤ n → length (cond b (e ∷ kept) kept) ≤ 1 + n
+few_of true e kept n le = omega arith
+few_of false e kept n le = omega arith
+
+-- no more events survive than there were
+pub few_survive : (h : List LaneEvent) → length (surviving h) ≤ length h
+unfolding surviving
+few_survive [] = omega arith
+few_survive (e ∷ after) = let few : length (surviving (e ∷ after)) ≤ 1 + length after = few_of (survives after) e (surviving after) (length after) (few_survive after) in omega (arith, few)
 
 -- the last event survives
 last_survives : (h : List LaneEvent) (e : LaneEvent) → (kept : List LaneEvent) × (surviving (h ++ e ∷ []) ≡ kept ++ e ∷ [])

@@ -1,4 +1,4 @@
--- The rows that a rank keeps, with one more fitting piece of one client.
+-- The rows that a rank keeps, with one more fitting piece.
 use Rattle.std.proofs.Common.{◌≡◌, ℕ, ◌+◌, ◌-◌, ◌<◌, Bool, true, false, not, ◌&&◌, cond, List, [], ◌∷◌, ◌++◌, map, Option, Some, None, refl, ap, sym, ◌∙◌, ⊎_elim, subst, arith}
 use Rattle.std.specs.Prelude.{◌==◌, nat_lt}
 use Rattle.std.specs.Option.{option_or}
@@ -46,7 +46,7 @@ new_row s rank place before p one is all within new =
     ∙ (ap (λ (o : Option Piece). elim o [ None ↦ [] | Some q ↦ samples_at q (((block s rank).first + place) - q.first) ]) found
     ∙ ap (samples_at p) back)
 
-same_test : (a b : ℕ) → (a == b) ≡ (b == a)
+pub same_test : (a b : ℕ) → (a == b) ≡ (b == a)
 same_test a b = grind (arith, nat_tests)
 
 both : (b : Bool) → (b && true) ≡ b
@@ -69,35 +69,42 @@ no_more : {A : Type 0} (b : Bool) (xs : List A) (x : A) → xs ++ cond (b && fal
 no_more true xs x = append-nil xs
 no_more false xs x = append-nil xs
 
--- what one more piece adds at a place within the block
-rows_more : (s : Sizes) (rank plane place : ℕ) (before : List Piece) (p : Piece) → s.clients ≡ 1 → IsBlock s rank → IsWhole s rank p → place < width (block s rank)
-    → completes s rank before p ≡ not (list_any (is_of_key (key_of p)) before) → list_any (is_of_key (key_of p)) before ≡ false
-    → shifted_rows s rank plane ((block s rank).first + place) (before ++ p ∷ [])
-    ≡ shifted_rows s rank plane ((block s rank).first + place) before ++ cond (plane == p.plane) (map (shifted s.signed) (samples_at p place) ∷ []) []
+-- what a completing piece adds to the rows of a cell
+rows_more : (s : Sizes) (rank plane x : ℕ) (before : List Piece) (p : Piece) → completes s rank before p ≡ true
+    → shifted_rows s rank plane x (before ++ p ∷ []) ≡ shifted_rows s rank plane x before ++ cond (plane == p.plane) (map (shifted s.signed) (row_at s x before p) ∷ []) []
 unfolding sample_rows
-rows_more s rank plane place before p one is all within done new =
-    let here : ((p.plane == plane) && completes s rank before p) ≡ (plane == p.plane) = ap (λ b. (p.plane == plane) && b) (done ∙ ap not new) ∙ (both (p.plane == plane) ∙ same_test p.plane plane) in
-    ap (map (map (shifted s.signed))) (completions_more s rank plane (row_at s ((block s rank).first + place)) before p)
-    ∙ (map-append (map (shifted s.signed)) (completions s rank plane (row_at s ((block s rank).first + place)) before) (cond ((p.plane == plane) && completes s rank before p) (row_at s ((block s rank).first + place) before p ∷ []) [])
-    ∙ ap (λ r. shifted_rows s rank plane ((block s rank).first + place) before ++ r)
-    (rw (here, new_row s rank place before p one is all within new) (map_cond (plane == p.plane) (map (shifted s.signed)) (samples_at p place))))
+rows_more s rank plane x before p done =
+    let here : ((p.plane == plane) && completes s rank before p) ≡ (plane == p.plane) = ap (λ b. (p.plane == plane) && b) done ∙ (both (p.plane == plane) ∙ same_test p.plane plane) in
+    ap (map (map (shifted s.signed))) (completions_more s rank plane (row_at s x) before p)
+    ∙ (map-append (map (shifted s.signed)) (completions s rank plane (row_at s x) before) (cond ((p.plane == plane) && completes s rank before p) (row_at s x before p ∷ []) [])
+    ∙ ap (λ r. shifted_rows s rank plane x before ++ r)
+    (ap (λ b. map (map (shifted s.signed)) (cond b (row_at s x before p ∷ []) [])) here ∙ map_cond (plane == p.plane) (map (shifted s.signed)) (row_at s x before p)))
 
-added_at : (s : Sizes) (rank : ℕ) (before : List Piece) (p : Piece) → s.clients ≡ 1 → IsBlock s rank → IsWhole s rank p
-    → completes s rank before p ≡ not (list_any (is_of_key (key_of p)) before) → list_any (is_of_key (key_of p)) before ≡ false
-    → (plane place : ℕ) → rank_table s rank (before ++ p ∷ []) plane place
-    ≡ with_block (rank_table s rank before) p.plane (width (block s rank)) (λ q. map (shifted s.signed) (samples_at p q)) plane place
-added_at s rank before p one is all done new plane place = ⊎_elim
+added_at : (s : Sizes) (rank : ℕ) (before : List Piece) (p : Piece) (row : ℕ → List ℕ) → completes s rank before p ≡ true
+    → ((place : ℕ) → place < width (block s rank) → map (shifted s.signed) (row_at s ((block s rank).first + place) before p) ≡ row place)
+    → (plane place : ℕ) → rank_table s rank (before ++ p ∷ []) plane place ≡ with_block (rank_table s rank before) p.plane (width (block s rank)) row plane place
+added_at s rank before p row done rows plane place = ⊎_elim
     (λ t.
     let within : place < width (block s rank) = ltb-true place (width (block s rank)) t in
-    rw (t, rows_more s rank plane place before p one is all within done new) (joined_cond (plane == p.plane) (shifted_rows s rank plane ((block s rank).first + place) before) (map (shifted s.signed) (samples_at p place))))
+    let x : ℕ = (block s rank).first + place in
+    rw (t, rows_more s rank plane ((block s rank).first + place) before p done)
+    (ap (λ (r : List ℕ). shifted_rows s rank plane ((block s rank).first + place) before ++ cond (plane == p.plane) (r ∷ []) []) (rows place within)
+    ∙ joined_cond (plane == p.plane) (shifted_rows s rank plane ((block s rank).first + place) before) (row place)))
     (λ f. rw f (nothing_cond (plane == p.plane) _))
     (cases_Bool (nat_lt place (width (block s rank))))
+
+-- a piece that completes its key adds the rows of its key to its plane
+pub table_completed : (s : Sizes) (rank : ℕ) (before : List Piece) (p : Piece) (row : ℕ → List ℕ) → completes s rank before p ≡ true
+    → ((place : ℕ) → place < width (block s rank) → map (shifted s.signed) (row_at s ((block s rank).first + place) before p) ≡ row place)
+    → rank_table s rank (before ++ p ∷ []) ≡ with_block (rank_table s rank before) p.plane (width (block s rank)) row
+table_completed s rank before p row done rows = same_tables _ _ (added_at s rank before p row done rows)
 
 -- a piece whose key is new adds its samples to its plane
 pub table_accepted : (s : Sizes) (rank : ℕ) (before : List Piece) (p : Piece) → s.clients ≡ 1 → IsBlock s rank → AllByRecursion (Fits s rank) before → Fits s rank p → list_any (is_of_key (key_of p)) before ≡ false
     → rank_table s rank (before ++ p ∷ []) ≡ with_block (rank_table s rank before) p.plane (width (block s rank)) (λ place. map (shifted s.signed) (samples_at p place))
 table_accepted s rank before p one is all fit new =
-    same_tables _ _ (added_at s rank before p one is (whole s rank p one is fit) (completes_where_new s rank before p one all fit) new)
+    table_completed s rank before p (λ place. map (shifted s.signed) (samples_at p place)) (completes_where_new s rank before p one all fit ∙ ap not new)
+    (λ place within. ap (map (shifted s.signed)) (new_row s rank place before p one is (whole s rank p one is fit) within new))
 
 kept_at : (s : Sizes) (rank : ℕ) (before : List Piece) (p : Piece) → completes s rank before p ≡ false → (plane place : ℕ) → rank_table s rank (before ++ p ∷ []) plane place ≡ rank_table s rank before plane place
 unfolding sample_rows

@@ -1,17 +1,17 @@
 -- One bit more in a set of keys.
-use Rattle.std.proofs.Common.{◌≡◌, ℕ, zero, suc, ◌+◌, ◌*◌, ◌/◌, ◌%◌, ◌^◌, ◌<◌, ◌≤◌, ◌≢◌, Bool, true, false, ◌&&◌, ◌||◌, cond, List, [], ◌∷◌, length, get_or, set, replicate, refl, ap, sym, ◌∙◌, ⊎_elim, subst, arith, get_or-set_same, get_or-set_other, length-append}
+use Rattle.std.proofs.Common.{◌≡◌, ℕ, zero, suc, ◌+◌, ◌*◌, ◌/◌, ◌%◌, ◌^◌, ◌<◌, ◌≤◌, ◌≢◌, Bool, true, false, ◌&&◌, ◌||◌, cond, List, [], ◌∷◌, ◌++◌, length, map, get_or, set, replicate, refl, ap, sym, ◌∙◌, ⊎_elim, subst, arith, get_or-set_same, get_or-set_other, length-append}
 use Rattle.std.specs.Prelude.{◌==◌, nat_lt, count_by, slice_index}
 use Rattle.std.specs.Int.{bit_at, w8}
 use Rattle.std.specs.Int.RustNames.{bit_or}
 use Rattle.std.proofs.lemmas.Bool.{cases_Bool, cases_eq, cases_lt, eq-eqb, ne_eqb, eqb-true, lt-ltb, le-ltb, ltb-true, ltb-false, and_left, and_right, or_right, and_from, and_parts, both_ways}
-use Rattle.std.proofs.lemmas.List.{get_or-replicate, get_or_past}
+use Rattle.std.proofs.lemmas.List.{get_or-replicate, get_or_past, get_or_push, map-append, length-map, ext_get_or}
 use Rattle.std.proofs.lemmas.List.Sums.{sum_by-append, count_by-le-length}
 use Rattle.std.proofs.lemmas.Nat.{div-mul-add}
 use Rattle.std.proofs.lemmas.Nat.Bits.{bit_at_set_same, bit_at_set_other, bit_at-zero}
 use Rattle.std.proofs.Math.Nat.{mul-le-mul_right}
-use Rattle.std.proofs.Math.ListN.{length-set, length-replicate}
+use Rattle.std.proofs.Math.ListN.{length-set, length-replicate, get_or-append}
 use Rattle.mls_model.specs.Numbers.{below}
-use Rattle.mls_ledger.specs.MarkSets.{MarkSet, row_len, is_marked, marked, KeepsMarks}
+use Rattle.mls_ledger.specs.MarkSets.{MarkSet, row_len, is_marked, marked, plane_counts, IsPadded, KeepsMarks}
 
 get_or-zeros : (n i : ℕ) → ◌≡◌ {A = ℕ} (get_or (replicate n 0) i 0) 0
 get_or-zeros n i = ⊎_elim
@@ -214,11 +214,28 @@ counted_more m counts group plane group_in plane_in kept absent p p_in = ⊎_eli
     new ∙ (kept.counted p p_in ∙ sym (marked_more m group plane group_in plane_in kept.size absent p ∙ ap (λ b. cond b (marked m p + 1) (marked m p)) (ne_eqb p plane other))))
     (cases_eq p plane)
 
+-- a key that the study has takes no bit past the groups
+padded_more : (m : MarkSet) (group plane : ℕ) → group < m.groups → plane < m.planes → length m.bytes ≡ m.planes * row_len m.groups → IsPadded m → IsPadded (with_mark m group plane)
+padded_more m group plane group_in plane_in size padded g p past row_in p_in =
+    let within : plane * row_len m.groups + group / 8 < length m.bytes = subst (λ (n : ℕ). plane * row_len m.groups + group / 8 < n) (sym size) (place_in m.groups m.planes group plane group_in plane_in) in
+    let b_in : group % 8 < 8 = omega arith in
+    let k_in : g % 8 < 8 = omega arith in
+    let a_row : group / 8 < row_len m.groups = omega arith in
+    let apart : (p * row_len m.groups + g / 8) ≡ (plane * row_len m.groups + group / 8) → (g % 8) ≡ (group % 8) → ⊥
+    = λ (e : (p * row_len m.groups + g / 8) ≡ (plane * row_len m.groups + group / 8)) (k : (g % 8) ≡ (group % 8)).
+    let p_same : p ≡ plane = same_place (row_len m.groups) p (g / 8) plane (group / 8) row_in a_row e in
+    let rows : p * row_len m.groups ≡ plane * row_len m.groups = ap (λ n. n * row_len m.groups) p_same in
+    let byte : g / 8 ≡ group / 8 = omega arith in
+    let g_same : g ≡ group = omega arith in
+    absurd (omega arith) in
+    new_bit m.bytes (plane * row_len m.groups + group / 8) (p * row_len m.groups + g / 8) (g % 8) (group % 8) within b_in k_in apart ∙ padded g p past row_in p_in
+
 -- the set with a key more and the counts with it
 pub keeps_more : (m : MarkSet) (counts : List ℕ) (group plane : ℕ) → group < m.groups → plane < m.planes → KeepsMarks m counts → is_marked m group plane ≡ false
     → KeepsMarks (with_mark m group plane) (set counts plane (get_or counts plane 0 + 1))
 keeps_more m counts group plane group_in plane_in kept absent = record {
   size = length-set m.bytes (plane * row_len m.groups + group / 8) (bit_or (get_or m.bytes (plane * row_len m.groups + group / 8) 0) (1 * 2 ^ (group % 8) % 2 ^ 8)) ∙ kept.size;
+  padded = padded_more m group plane group_in plane_in kept.size kept.padded;
   one_each = length-set counts plane (get_or counts plane 0 + 1) ∙ kept.one_each;
   counted = counted_more m counts group plane group_in plane_in kept absent;
 }
@@ -245,6 +262,32 @@ zeros_count groups planes n plane =
 pub keeps_zeros : (groups planes : ℕ) → KeepsMarks (record { groups = groups; planes = planes; bytes = replicate (planes * row_len groups) 0 }) (replicate planes 0)
 keeps_zeros groups planes = record {
   size = length-replicate {A = ℕ} (planes * row_len groups) 0;
+  padded = λ group plane past row_in plane_in. zero_bit (planes * row_len groups) (plane * row_len groups + group / 8) (group % 8);
   one_each = length-replicate {A = ℕ} planes 0;
   counted = λ plane within. get_or-zeros planes plane ∙ sym (zeros_count groups planes (planes * row_len groups) plane);
 }
+
+length_made : (f : ℕ → ℕ) (n : ℕ) → length (map f (below n)) ≡ n
+length_made f n = length-map (below n) f ∙ length-below n
+
+made_at : (f : ℕ → ℕ) (n k : ℕ) → k < n → get_or (map f (below n)) k 0 ≡ f k
+made_at f zero k h = absurd (omega arith)
+made_at f (suc n) k h =
+    let parts : map f (below (suc n)) ≡ map f (below n) ++ f n ∷ [] = map-append f (below n) (n ∷ []) in
+    ⊎_elim
+    (λ (lt : k < n).
+    let here : k < length (map f (below n)) = omega (arith, length_made f n) in
+    ap (λ l. get_or l k 0) parts ∙ (get_or-append (map f (below n)) (f n ∷ []) 0 k here ∙ made_at f n k lt))
+    (λ (le : n ≤ k).
+    let is : n ≡ k = omega arith in
+    ap (λ l. get_or l k 0) parts ∙ (get_or_push (map f (below n)) (f n) 0 k (length_made f n ∙ is) ∙ ap f is))
+    (cases_lt k n)
+
+-- the counts beside the bits are those of the planes
+pub counts_are : (m v : MarkSet) (counts : List ℕ) → m ≡ v → KeepsMarks m counts → counts ≡ plane_counts v
+counts_are m v counts seen kept =
+    ext_get_or 0 counts (map (marked m) (below m.planes)) (kept.one_each ∙ sym (length_made (marked m) m.planes))
+    (λ plane within.
+    let here : plane < m.planes = omega (arith, kept.one_each, within) in
+    kept.counted plane here ∙ sym (made_at (marked m) m.planes plane here))
+    ∙ ap plane_counts seen

@@ -1,8 +1,8 @@
 //! A set of keys, each a group and a plane, as one bit a key.
 
-ghost use Rattle.std.specs.Prelude.{◌≡◌, ◌==◌, ◌+◌, ◌*◌, ◌/◌, ◌<◌, ℕ, cond, false, length, IfOk, ◌||◌, ◌&&◌};
+ghost use Rattle.std.specs.Prelude.{◌≡◌, ◌==◌, ◌+◌, ◌*◌, ◌/◌, ◌<◌, ℕ, cond, false, length, IfOk, ◌||◌, ◌&&◌, slice_index};
 ghost use Rattle.mls_model.specs.Studies.{planes};
-ghost use Rattle.mls_ledger.specs.MarkSets.{row_len, is_marked, marked};
+ghost use Rattle.mls_ledger.specs.MarkSets.{row_len, is_marked, marked, plane_counts, IsPadded};
 
 use mls_base::faults::NoMemory;
 use mls_base::shape::Shape;
@@ -50,6 +50,14 @@ impl Marks {
         })
     }
 
+    /// The bits are of a size, and those that no key has are 0.
+    pub fn valid(&self)
+        ensures size { length self.now.bytes ≡ self.now.planes * row_len self.now.groups }
+        ensures padded { IsPadded self.now }
+    {
+        let _groups = self.groups;
+    }
+
     /// Where a key's byte is.
     fn place(&self, group: u32, plane: u32) -> usize
         requires group_in { group < self.now.groups }
@@ -94,6 +102,14 @@ impl Marks {
         ensures { result ≡ marked self.now step }
     {
         self.counts[step as usize]
+    }
+
+    /// The number of keys of each plane, in rising plane.
+    pub fn counts(&self) -> &[u32]
+        ensures all { result.now ≡ plane_counts self.now }
+        ensures each { (plane : ℕ) → plane < self.now.planes → slice_index result.now plane ≡ marked self.now plane }
+    {
+        self.counts.as_slice()
     }
 
     /// Takes all keys out.

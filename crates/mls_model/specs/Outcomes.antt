@@ -1,5 +1,5 @@
 -- What becomes of each surviving event, and how many have each outcome.
-use Rattle.std.specs.Prelude.{ℕ, ◌+◌, Bool, true, false, cond, List, [], ◌∷◌, Option, Some, None, count_by}
+use Rattle.std.specs.Prelude.{ℕ, ◌+◌, Bool, true, false, cond, List, [], ◌∷◌, Some, None, count_by}
 use Rattle.std.specs.List.{list_any}
 use Rattle.mls_model.specs.declared.lanes.LaneKind.{LaneKind}
 use Rattle.mls_model.specs.declared.lanes.LaneKind.TheVariants.{Client, Control}

@@ -1,10 +1,11 @@
 //! Decimal text in a buffer of fixed size.
 
-ghost use Rattle.std.specs.Prelude.{◌≡◌, ◌+◌, ◌-◌, ◌%◌, ◌≤◌, take, drop, pos, negsuc, ◌≤ℤ◌};
+ghost use Rattle.std.specs.Prelude.{◌≡◌, ◌+◌, ◌-◌, ◌%◌, ◌≤◌, length, take, drop, pos, negsuc, ◌≤ℤ◌};
 ghost use Rattle.std.specs.Fmt.{signed_decimal};
 ghost use Rattle.mls_model.specs.ResultText.{millionths_words};
 
 use itoa::Integer;
+use std::str;
 
 /// Room for the text of any number of 128 bits.
 #[derive(Clone, Copy, Debug)]
@@ -24,7 +25,7 @@ pub fn put_decimal(buffer: &mut Digits, n: i128) -> &str
     ensures { result.now ≡ signed_decimal n }
 {
     let start = n.write(&mut buffer.bytes);
-    unsafe { std::str::from_utf8_unchecked(&buffer.bytes[start..]) }
+    str::from_utf8(&buffer.bytes[start..]).unwrap()
 }
 
 /// The last decimal digit of `n`.
@@ -65,8 +66,9 @@ fn write_millionths(m: i32, bytes: &mut [u8; 40]) -> usize
 pub fn put_millionths(buffer: &mut Digits, m: i32) -> &str
     requires low { negsuc 1999999 ≤ℤ m }
     requires high { m ≤ℤ pos 2000000 }
-    ensures { result.now ≡ millionths_words m }
+    ensures text { result.now ≡ millionths_words m }
+    ensures short { length result.now ≤ 9 }
 {
     let start = write_millionths(m, &mut buffer.bytes);
-    unsafe { std::str::from_utf8_unchecked(&buffer.bytes[start..9]) }
+    str::from_utf8(&buffer.bytes[start..9]).unwrap()
 }

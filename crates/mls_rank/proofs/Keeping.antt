@@ -1,10 +1,8 @@
 -- What a rank keeps after one more fitting piece.
-use Rattle.std.proofs.Common.{◌≡◌, ℕ, ◌+◌, ◌<◌, Bool, true, false, ◌&&◌, ◌||◌, cond, List, [], ◌∷◌, ◌++◌, length, map, refl, ap, sym, ◌∙◌, ⊎_elim, subst, arith, length-append}
+use Rattle.std.proofs.Common.{◌≡◌, ℕ, ◌+◌, ◌<◌, Bool, true, false, ◌&&◌, ◌||◌, cond, List, [], ◌∷◌, ◌++◌, length, map, refl, ap, sym, ◌∙◌, subst, length-append}
 use Rattle.std.specs.Prelude.{◌==◌, nat_lt}
-use Rattle.std.proofs.lemmas.List.{append-nil, map-append}
+use Rattle.std.proofs.lemmas.List.{append-nil}
 use Rattle.std.proofs.lemmas.Simd.{map-map}
-use Rattle.std.proofs.lemmas.Bool.{cases_Bool, ltb-true}
-use Rattle.std.proofs.lemmas.Bool.Decides.{nat_tests}
 use Rattle.mls_model.specs.Numbers.{below}
 use Rattle.mls_model.specs.Studies.{Sizes}
 use Rattle.mls_model.specs.Blocks.{block, width}
@@ -12,12 +10,12 @@ use Rattle.mls_model.specs.Samples.{shifted}
 use Rattle.mls_model.specs.Frames.{Piece}
 use Rattle.mls_model.specs.Places.{gathered, any_place}
 use Rattle.mls_model.specs.Completion.{Key, is_of_key, is_completed, completes}
-use Rattle.mls_model.specs.AcceptedRows.{completions, accepted, row_at, sample_rows, shifted_rows}
+use Rattle.mls_model.specs.AcceptedRows.{completions, accepted, row_at, sample_rows}
 use Rattle.mls_model.specs.Standing.{Table, empty_table, with_block, rank_table}
 use Rattle.mls_field.specs.ShiftedRows.{shifted_row}
 use Rattle.mls_laws.proofs.Places.{any_place_more}
-use Rattle.mls_laws.proofs.Completing.{accepted_more, completions_more, completes_key, completed_at_some_place}
-use Rattle.mls_laws.proofs.Table.{same_tables, table_kept}
+use Rattle.mls_laws.proofs.Completing.{accepted_more, completes_key, completed_at_some_place}
+use Rattle.mls_laws.proofs.Table.{same_tables, same_test, table_kept, table_completed}
 use Rattle.mls_assembly.specs.Held.{Held}
 use Rattle.mls_assembly.specs.Offered.{offered_sample, Completed}
 use Rattle.mls_rank.specs.Standing.{KeepsRows}
@@ -45,9 +43,6 @@ keeps_none s rank marks groups stands empty none rows = record {
   accepted = λ plane. none plane ∙ sym (none_accepted s rank plane);
   rows = subst stands (sym (same_tables (rank_table s rank []) empty_table (empty_rows s rank))) rows;
 }
-
-same_test : (a b : ℕ) → (a == b) ≡ (b == a)
-same_test a b = grind (arith, nat_tests)
 
 -- one more piece completes its key where it completes it, and no other
 pub is_completed_by : (s : Sizes) (rank : ℕ) (key : Key) (pieces : List Piece) (p : Piece) → is_completed s rank key (pieces ++ p ∷ []) ≡ (is_completed s rank key pieces || (is_of_key key p && completes s rank pieces p))
@@ -86,46 +81,6 @@ one_longer : (b c : Bool) (xs : List ℕ) (x : ℕ) → c ≡ true → length (x
 one_longer true c xs x h = rw h (length-append xs (x ∷ []))
 one_longer false c xs x h = ap length (append-nil xs)
 
-map_cond : {A B : Type 0} (b : Bool) (f : A → B) (x : A) → map f (cond b (x ∷ []) []) ≡ cond b (f x ∷ []) []
-map_cond true f x = refl
-map_cond false f x = refl
-
-joined_cond : {A : Type 0} (b : Bool) (xs : List A) (x : A) → xs ++ cond b (x ∷ []) [] ≡ cond (b && true) (xs ++ x ∷ []) xs
-joined_cond true xs x = refl
-joined_cond false xs x = append-nil xs
-
-nothing_cond : {A : Type 0} (b : Bool) (xs : List A) → [] ≡ cond (b && false) xs []
-nothing_cond true xs = refl
-nothing_cond false xs = refl
-
-both : (b : Bool) → (b && true) ≡ b
-both true = refl
-both false = refl
-
--- what a completing piece adds to the rows of a cell
-rows_more : (s : Sizes) (rank plane x : ℕ) (pieces : List Piece) (p : Piece) → completes s rank pieces p ≡ true
-    → shifted_rows s rank plane x (pieces ++ p ∷ []) ≡ shifted_rows s rank plane x pieces ++ cond (plane == p.plane) (map (shifted s.signed) (row_at s x pieces p) ∷ []) []
-unfolding sample_rows
-rows_more s rank plane x pieces p done =
-    let here : ((p.plane == plane) && completes s rank pieces p) ≡ (plane == p.plane) = ap (λ b. (p.plane == plane) && b) done ∙ (both (p.plane == plane) ∙ same_test p.plane plane) in
-    ap (map (map (shifted s.signed))) (completions_more s rank plane (row_at s x) pieces p)
-    ∙ (map-append (map (shifted s.signed)) (completions s rank plane (row_at s x) pieces) (cond ((p.plane == plane) && completes s rank pieces p) (row_at s x pieces p ∷ []) [])
-    ∙ ap (λ r. shifted_rows s rank plane x pieces ++ r)
-    (ap (λ b. map (map (shifted s.signed)) (cond b (row_at s x pieces p ∷ []) [])) here ∙ map_cond (plane == p.plane) (map (shifted s.signed)) (row_at s x pieces p)))
-
-added_at : (s : Sizes) (rank : ℕ) (pieces : List Piece) (p : Piece) (row : ℕ → List ℕ) → completes s rank pieces p ≡ true
-    → ((place : ℕ) → place < width (block s rank) → map (shifted s.signed) (row_at s ((block s rank).first + place) pieces p) ≡ row place)
-    → (plane place : ℕ) → rank_table s rank (pieces ++ p ∷ []) plane place ≡ with_block (rank_table s rank pieces) p.plane (width (block s rank)) row plane place
-added_at s rank pieces p row done rows plane place = ⊎_elim
-    (λ t.
-    let within : place < width (block s rank) = ltb-true place (width (block s rank)) t in
-    let x : ℕ = (block s rank).first + place in
-    rw (t, rows_more s rank plane ((block s rank).first + place) pieces p done)
-    (ap (λ (r : List ℕ). shifted_rows s rank plane ((block s rank).first + place) pieces ++ cond (plane == p.plane) (r ∷ []) []) (rows place within)
-    ∙ joined_cond (plane == p.plane) (shifted_rows s rank plane ((block s rank).first + place) pieces) (row place)))
-    (λ f. rw f (nothing_cond (plane == p.plane) _))
-    (cases_Bool (nat_lt place (width (block s rank))))
-
 -- a piece that completes its key
 pub keeps_completed : (s : Sizes) (rank : ℕ) (marks new_marks : ℕ → ℕ → Bool) (groups new_groups : ℕ → ℕ) (stands new_stands : Table → Type 0) (pieces : List Piece) (p : Piece) (sample : ℕ → ℕ → ℕ) → completes s rank pieces p ≡ true
     → ((place : ℕ) → place < width (block s rank) → row_at s ((block s rank).first + place) pieces p ≡ map (λ row. sample row place) (below (s.parameters + 2)))
@@ -146,9 +101,8 @@ keeps_completed s rank marks new_marks groups new_groups stands new_stands piece
       ∙ (ap (λ b. cond b (length (accepted s rank plane pieces) + 1) (length (accepted s rank plane pieces))) (same_test plane p.plane)
       ∙ sym (ap length (accepted_more s rank plane pieces p) ∙ one_longer (p.plane == plane) (completes s rank pieces p) (accepted s rank plane pieces) p.group done)));
   rows = subst new_stands
-      (sym (same_tables (rank_table s rank (pieces ++ p ∷ [])) (with_block (rank_table s rank pieces) p.plane (width (block s rank)) (shifted_row s.signed (s.parameters + 2) sample))
-      (added_at s rank pieces p (shifted_row s.signed (s.parameters + 2) sample) done
-      (λ place within. ap (map (shifted s.signed)) (rows place within) ∙ map-map (shifted s.signed) (λ row. sample row place) (below (s.parameters + 2))))))
+      (sym (table_completed s rank pieces p (shifted_row s.signed (s.parameters + 2) sample) done
+      (λ place within. ap (map (shifted s.signed)) (rows place within) ∙ map-map (shifted s.signed) (λ row. sample row place) (below (s.parameters + 2)))))
       (added (rank_table s rank pieces) kept.rows);
 }
 

@@ -16,14 +16,14 @@ use Rattle.mls_laws.proofs.Completing.{same_key, is_completed_more}
 use Rattle.mls_assembly.specs.declared.assembled.Assembled.{Assembled}
 use Rattle.mls_assembly.specs.Shares.{Share, block_sample}
 use Rattle.mls_assembly.specs.Pendings.{greatest_life, Pends, PendsBut}
-use Rattle.mls_assembly.specs.Held.{Held, open_of, life_of, share_at, PendsFor}
+use Rattle.mls_assembly.specs.Held.{Held, kept_of, life_of, share_at, PendsFor}
 use Rattle.mls_assembly.specs.Offered.{offered_sample, Offers}
 use Rattle.mls_assembly.proofs.Taking.{pends_other}
 use Rattle.mls_assembly.proofs.Storing.{nothing_pends}
 use Rattle.mls_assembly.proofs.Offering.{all_pend}
 
 -- nothing is pending before any piece
-pub waits_none : (s : Sizes) (rank : ℕ) (held : Held) → ((key : Key) → open_of held key ≡ None) → Pends s rank (life_of held) (share_at held) []
+pub waits_none : (s : Sizes) (rank : ℕ) (held : Held) → ((key : Key) → kept_of held key ≡ None) → Pends s rank (life_of held) (share_at held) []
 unfolding is_completed greatest_life any_place
 waits_none s rank held none key = record {
   life_is = ap (option_map (λ o. o.life)) (none key);

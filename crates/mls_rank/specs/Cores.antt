@@ -1,9 +1,9 @@
 -- What clauses see of a core.
-use Rattle.std.specs.Prelude.{◌≡◌, ℕ, Bool}
+use Rattle.std.specs.Prelude.{◌≡◌, ℕ, ◌*◌, Bool, length}
 use Rattle.mls_model.specs.declared.outcomes.Counts.{Counts}
-use Rattle.mls_model.specs.Studies.{Sizes}
+use Rattle.mls_model.specs.Studies.{Sizes, planes}
 use Rattle.mls_field.specs.declared.fold.RowFold.{Ghosts}
-use Rattle.mls_ledger.specs.MarkSets.{is_marked, marked}
+use Rattle.mls_ledger.specs.MarkSets.{MarkSet, row_len, is_marked, marked, IsPadded}
 use Rattle.mls_assembly.specs.Held.{Held}
 use Rattle.mls_rank.specs.declared.rank_core.RankCore.{RankCore}
 
@@ -17,6 +17,10 @@ rank_of core = core.rank
 -- the numbers of events with each outcome
 abbrev pub counts_of : {F : Type 0} {T : Ghosts F} → RankCore F T → Counts
 counts_of core = core.counts
+
+-- the marked keys
+abbrev pub marks_of : {F : Type 0} {T : Ghosts F} → RankCore F T → MarkSet
+marks_of core = core.marks
 
 -- whether the key of a group and a plane is marked
 abbrev pub has_mark : {F : Type 0} {T : Ghosts F} → RankCore F T → ℕ → ℕ → Bool
@@ -33,6 +37,17 @@ fold_of core = core.fold
 -- the pending pieces
 abbrev pub pending_of : {F : Type 0} {T : Ghosts F} → RankCore F T → Held
 pending_of core = core.pending
+
+-- the marks are those of the study, and no bit stands past the groups
+pub record AreMarks {F : Type 0} {T : Ghosts F} (core : RankCore F T) : Type 0 where
+  pub groups : (marks_of core).groups ≡ (sizes_of core).groups
+  pub planes : (marks_of core).planes ≡ planes (sizes_of core)
+  pub size : length (marks_of core).bytes ≡ (marks_of core).planes * row_len (marks_of core).groups
+  pub padded : IsPadded (marks_of core)
+
+-- the marks, and what is kept of the rows, are as before
+abbrev pub SameRows : {F : Type 0} {T : Ghosts F} → RankCore F T → RankCore F T → Type 0
+SameRows old new = (fold_of new ≡ fold_of old) × ((group plane : ℕ) → has_mark new group plane ≡ has_mark old group plane)
 
 -- all that is kept is as before
 pub record IsSame {F : Type 0} {T : Ghosts F} (old new : RankCore F T) : Type 0 where

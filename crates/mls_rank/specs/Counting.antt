@@ -1,7 +1,7 @@
 -- Words on outcomes and counts.
-use Rattle.std.specs.Prelude.{Bool, true, false}
+use Rattle.std.specs.Prelude.{◌≢◌, Bool, true, false}
 use Rattle.mls_model.specs.declared.outcomes.Outcome.{Outcome}
-use Rattle.mls_model.specs.declared.outcomes.Outcome.TheVariants.{Quiet, Save, Crash}
+use Rattle.mls_model.specs.declared.outcomes.Outcome.TheVariants.{Accepted, Kept, Quiet, Save, Crash}
 use Rattle.mls_model.specs.declared.outcomes.Counts.{Counts}
 
 -- the counts before any event
@@ -22,3 +22,7 @@ is_saved _ = false
 abbrev pub is_crashed : Outcome → Bool
 is_crashed Crash = true
 is_crashed _ = false
+
+-- outcomes that leave the pending pieces as they are
+abbrev pub IsUnkept : Outcome → Type 0
+IsUnkept o = (o ≢ Accepted) × (o ≢ Kept)

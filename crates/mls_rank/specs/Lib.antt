@@ -1,3 +1,4 @@
 pub mod Counting
 pub mod Cores
 pub mod Standing
+pub mod Waiting

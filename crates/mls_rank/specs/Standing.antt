@@ -1,5 +1,7 @@
 -- Which history a core stands for.
-use Rattle.std.specs.Prelude.{◌≡◌, ℕ, ◌<◌, Bool, List, length, Some, None}
+use Rattle.std.specs.Prelude.{◌≡◌, ℕ, ◌<◌, Bool, false, List, [], ◌∷◌, ◌++◌, length, Some, None}
+use Rattle.std.specs.List.{AllByRecursion}
+use Rattle.std.specs.Option.{option_to_list}
 use Rattle.mls_model.specs.declared.lanes.LaneKind.{LaneKind}
 use Rattle.mls_model.specs.declared.outcomes.Outcome.{Outcome}
 use Rattle.mls_model.specs.declared.outcomes.Outcome.TheVariants.{Foreign}
@@ -7,10 +9,10 @@ use Rattle.mls_model.specs.Blocks.{block, width}
 use Rattle.mls_model.specs.Studies.{Sizes}
 use Rattle.mls_model.specs.Frames.{Frame, Piece}
 use Rattle.mls_model.specs.Histories.{LaneEvent}
-use Rattle.mls_model.specs.Survival.{surviving}
-use Rattle.mls_model.specs.Fitting.{fitting, frame_reason, frame_piece}
+use Rattle.mls_model.specs.Survival.{is_crash, surviving}
+use Rattle.mls_model.specs.Fitting.{Fits, fitting, frame_reason, frame_piece}
 use Rattle.mls_model.specs.Completion.{is_completed}
-use Rattle.mls_model.specs.Outcomes.{native_outcome, counts}
+use Rattle.mls_model.specs.Outcomes.{native_outcome, piece_outcome, outcome, counts}
 use Rattle.mls_model.specs.AcceptedRows.{accepted}
 use Rattle.mls_model.specs.Standing.{Table, rank_table}
 use Rattle.mls_field.specs.declared.fold.RowFold.{Ghosts}
@@ -46,6 +48,41 @@ pub record StandsFor {F : Type 0} {T : Ghosts F} (core : RankCore F T) (history 
 -- the outcome of an event after these fitting pieces
 abbrev pub outcome_after : Sizes → ℕ → List Piece → LaneKind → Frame → Outcome
 outcome_after s rank pieces kind frame = elim (frame_reason s rank kind frame) [ Some r ↦ Foreign r | None ↦ native_outcome s rank pieces kind frame ]
+
+abbrev pub as_event : LaneKind → Frame → LaneEvent
+as_event kind frame = record { kind = kind; frame = frame }
+
+-- the fitting piece of an event, where it is one
+abbrev pub pieces_of : {F : Type 0} {T : Ghosts F} → RankCore F T → LaneKind → Frame → List Piece
+pieces_of core kind frame = option_to_list (frame_piece (sizes_of core) (rank_of core) kind frame)
+
+-- after all pieces that the core keeps, the outcome of a fitting piece, and of an event, is right
+abbrev pub IsPieceOutcome : {F : Type 0} {T : Ghosts F} → RankCore F T → Piece → Outcome → Type 0
+IsPieceOutcome core p o =
+    (pieces : List Piece) → AllByRecursion (Fits (sizes_of core) (rank_of core)) pieces → Keeps core pieces
+    → o ≡ piece_outcome (sizes_of core) (rank_of core) pieces p
+
+abbrev pub IsEventOutcome : {F : Type 0} {T : Ghosts F} → RankCore F T → LaneKind → Frame → Outcome → Type 0
+IsEventOutcome core kind frame o =
+    (pieces : List Piece) → AllByRecursion (Fits (sizes_of core) (rank_of core)) pieces → Keeps core pieces
+    → o ≡ outcome_after (sizes_of core) (rank_of core) pieces kind frame
+
+-- a core keeps more pieces than the one of before
+abbrev pub KeepsMore : {F : Type 0} {T : Ghosts F} → RankCore F T → RankCore F T → List Piece → Type 0
+KeepsMore old new more =
+    (pieces : List Piece) → AllByRecursion (Fits (sizes_of old) (rank_of old)) pieces → Keeps old pieces → Keeps new (pieces ++ more)
+
+-- the outcome of an event after each history that the core stands for is right
+abbrev pub IsOutcome : {F : Type 0} {T : Ghosts F} → RankCore F T → LaneEvent → Outcome → Type 0
+IsOutcome core e o = (history : List LaneEvent) → StandsFor core history → o ≡ outcome (sizes_of core) (rank_of core) (surviving history) e
+
+-- a core stands for the histories of the one of before with one more event, which is no crash
+abbrev pub StandsOn : {F : Type 0} {T : Ghosts F} → RankCore F T → RankCore F T → LaneEvent → Type 0
+StandsOn old new e = (history : List LaneEvent) → StandsFor old history → is_crash e ≡ false → StandsFor new (history ++ e ∷ [])
+
+-- a piece has fewer cells than the rank's block
+abbrev pub IsSmall : {F : Type 0} {T : Ghosts F} → RankCore F T → Piece → Type 0
+IsSmall core p = p.count < width (block (sizes_of core) (rank_of core))
 
 -- the event is a fitting piece with fewer cells than the rank's block
 abbrev pub IsPart : Sizes → ℕ → LaneKind → Frame → Type 0

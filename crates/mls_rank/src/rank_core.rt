@@ -14,11 +14,12 @@ ghost use Rattle.mls_model.specs.Outcomes.{outcome, piece_outcome};
 ghost use Rattle.mls_model.specs.Fitting.{Fits};
 ghost use Rattle.mls_model.specs.Survival.{before_last_save};
 ghost use Rattle.mls_model.specs.Outcomes.{counted, total_count};
-ghost use Rattle.mls_frame.specs.Views.{frame_of};
+ghost use Rattle.mls_frame.specs.Views.{frame_of, piece_of};
 ghost use Rattle.mls_ledger.specs.MarkSets.{marked};
-ghost use Rattle.mls_assembly.specs.Held.{open_of};
-ghost use Rattle.mls_assembly.specs.Offered.{Completed};
-ghost use Rattle.mls_rank.specs.Counting.{no_counts, is_idle, is_saved, is_crashed};
+ghost use Rattle.mls_assembly.specs.Held.{ArePending, AreRising};
+ghost use Rattle.mls_assembly.specs.Offered.{Covers, IsPartial};
+ghost use Rattle.mls_rank.specs.Waiting.{AreWaiting};
+ghost use Rattle.mls_rank.specs.Counting.{no_counts, is_idle, is_saved, is_crashed, IsUnkept};
 
 use crate::counting::{is_not_counted, no_events, one_more};
 use mls_assembly::{Assembled, GroupStep, Pending};
@@ -34,7 +35,7 @@ use std::alloc::Global;
 
 /// The state of one rank: the counts of its events, the marked keys, the pieces that wait for those of other clients, and what a fold keeps of the accepted rows.
 ///
-/// It stands for the history of the events that it was given, where it does. Its type keeps that the rows added to a plane are as many as the plane's marks.
+/// It stands for the history of the events that it was given, where it does. Its type keeps that the rows added to a plane are as many as the plane's marks, and that no pending key is marked or whole.
 #[derive(Drop)]
 pub struct RankCore<F: RowFold> {
     shape: Shape,
@@ -51,11 +52,12 @@ pub struct RankCore<F: RowFold> {
     ghost pending_shape: { pending.sizes ≡ shape },
     ghost pending_rank: { pending.rank ≡ rank },
     ghost rows: { (plane : ℕ) → F.row_count fold plane ≡ marked marks plane },
+    ghost waiting: { AreWaiting marks pending },
 }
 
 impl<F: RowFold> RankCore<F> {
-    ghost use Rattle.mls_rank.specs.Cores.{sizes_of, rank_of, counts_of, has_mark, mark_count, fold_of, pending_of, IsSame};
-    ghost use Rattle.mls_rank.specs.Standing.{Holds, Keeps, StandsFor, outcome_after, IsPart};
+    ghost use Rattle.mls_rank.specs.Cores.{sizes_of, rank_of, counts_of, marks_of, has_mark, mark_count, fold_of, pending_of, AreMarks, SameRows, IsSame};
+    ghost use Rattle.mls_rank.specs.Standing.{StandsFor, as_event, pieces_of, IsPieceOutcome, IsEventOutcome, KeepsMore, IsOutcome, StandsOn, IsSmall, IsPart};
 
     /// The state before any event.
     pub fn new(alloc: Global, shape: &Shape, rank: u32) -> Result<RankCore<F>, NoMemory>
@@ -75,6 +77,21 @@ impl<F: RowFold> RankCore<F> {
             pending: Pending::new(alloc, shape, rank),
             fold,
         })
+    }
+
+    /// The marks and the pending keys are those of the study and the rank. No bit stands past the groups, the pending keys rise
+    /// by plane, then group, and none of them is marked or whole. The rows added to a plane are as many as its marks.
+    pub fn valid(&self)
+        ensures marks { AreMarks self.now }
+        ensures rows { (plane : ℕ) → F.row_count (fold_of self.now) plane ≡ mark_count self.now plane }
+        ensures sizes { (pending_of self.now).sizes ≡ sizes_of self.now }
+        ensures rank { (pending_of self.now).rank ≡ rank_of self.now }
+        ensures pending { ArePending (pending_of self.now) }
+        ensures rising { AreRising (pending_of self.now) }
+        ensures waiting { AreWaiting (marks_of self.now) (pending_of self.now) }
+    {
+        self.marks.valid();
+        self.pending.valid();
     }
 
     /// The study's numbers.
@@ -126,7 +143,7 @@ impl<F: RowFold> RankCore<F> {
 
     /// Why a piece on a client lane is foreign to the rank, if it is.
     fn reason_of(&self, piece: &PieceView<'_>) -> Option<Reason>
-        ensures { result ≡ piece_reason (sizes_of self.now) (rank_of self.now) piece.now }
+        ensures { result ≡ piece_reason (sizes_of self.now) (rank_of self.now) (piece_of piece.now) }
     {
         if piece.rows() != self.shape.parameters() + 2 {
             return Some(Reason::Rows);
@@ -151,98 +168,101 @@ impl<F: RowFold> RankCore<F> {
         }
     }
 
-    /// Accepts a piece that covers the rank's block alone: marks its key and adds its rows.
-    fn accept_alone(&mut self, piece: &PieceView<'_>)
-        requires fits { piece_reason (sizes_of self.old) (rank_of self.old) piece.now ≡ None }
-        requires absent { has_mark self.old piece.now.group piece.now.plane ≡ false }
-        requires whole { piece.now.count ≡ width (block (sizes_of self.old) (rank_of self.old)) }
-        ensures keeps { (pieces : List Piece) → Holds self.old pieces → Completed (sizes_of self.old) (rank_of self.old) (pending_of self.old) piece.now pieces → Keeps self.new (pieces ++ piece.now ∷ []) }
-        ensures sizes { sizes_of self.new ≡ sizes_of self.old }
-        ensures rank { rank_of self.new ≡ rank_of self.old }
-        ensures counts { counts_of self.new ≡ counts_of self.old }
-    {
-        self.shape.valid();
-        self.marks.set(piece.group(), piece.step());
-        self.fold.add_block(piece.step(), piece);
-    }
-
-    /// Accepts a piece that completes its key with those of other clients: marks the key, adds the rows of all of them and lets them go.
-    fn accept_parts(&mut self, piece: &PieceView<'_>)
-        requires fits { piece_reason (sizes_of self.old) (rank_of self.old) piece.now ≡ None }
-        requires absent { has_mark self.old piece.now.group piece.now.plane ≡ false }
-        requires part { (piece.now.count == width (block (sizes_of self.old) (rank_of self.old))) ≡ false }
-        requires ready { IsSome (open_of (pending_of self.old) (key_of piece.now)) }
-        ensures keeps { (pieces : List Piece) → Holds self.old pieces → Completed (sizes_of self.old) (rank_of self.old) (pending_of self.old) piece.now pieces → Keeps self.new (pieces ++ piece.now ∷ []) }
-        ensures sizes { sizes_of self.new ≡ sizes_of self.old }
-        ensures rank { rank_of self.new ≡ rank_of self.old }
-        ensures counts { counts_of self.new ≡ counts_of self.old }
-    {
-        self.shape.valid();
-        let key = GroupStep {
-            group: piece.group(),
-            step: piece.step(),
-        };
-        self.marks.set(key.group, key.step);
-        self.fold.add_block(key.step, &self.pending.rows(key));
-        self.pending.drop_key(key);
-    }
-
-    /// Accepts a piece that completes its key.
-    fn accept(&mut self, piece: &PieceView<'_>)
-        requires fits { piece_reason (sizes_of self.old) (rank_of self.old) piece.now ≡ None }
-        requires absent { has_mark self.old piece.now.group piece.now.plane ≡ false }
-        requires ready { piece.now.count < width (block (sizes_of self.old) (rank_of self.old)) → IsSome (open_of (pending_of self.old) (key_of piece.now)) }
-        ensures keeps { (pieces : List Piece) → Holds self.old pieces → Completed (sizes_of self.old) (rank_of self.old) (pending_of self.old) piece.now pieces → Keeps self.new (pieces ++ piece.now ∷ []) }
-        ensures sizes { sizes_of self.new ≡ sizes_of self.old }
-        ensures rank { rank_of self.new ≡ rank_of self.old }
-        ensures counts { counts_of self.new ≡ counts_of self.old }
-    {
-        let block = self.shape.block(self.rank);
-        if piece.count() == block.end - block.first {
-            self.accept_alone(piece);
-        } else {
-            self.accept_parts(piece);
-        }
-    }
-
-    /// Takes a piece that fits the rank: adds the rows of its key where it completes it, and marks the key.
-    fn take_piece(&mut self, piece: &PieceView<'_>) -> Result<Outcome, NoMemory>
-        requires { piece_reason (sizes_of self.old) (rank_of self.old) piece.now ≡ None }
-        ensures outcome { (pieces : List Piece) → AllByRecursion (Fits (sizes_of self.old) (rank_of self.old)) pieces → Keeps self.old pieces → IfOk result (λ o. o ≡ piece_outcome (sizes_of self.old) (rank_of self.old) pieces piece.now) }
-        ensures keeps { (pieces : List Piece) → AllByRecursion (Fits (sizes_of self.old) (rank_of self.old)) pieces → Keeps self.old pieces → OnOk result (Keeps self.new (pieces ++ piece.now ∷ [])) }
+    /// Takes a piece that covers the rank's block alone and whose key is not marked: marks the key and adds the rows.
+    fn take_alone(&mut self, piece: &PieceView<'_>) -> Result<Outcome, NoMemory>
+        requires fits { piece_reason (sizes_of self.old) (rank_of self.old) (piece_of piece.now) ≡ None }
+        requires absent { has_mark self.old (piece_of piece.now).group (piece_of piece.now).plane ≡ false }
+        requires covers { Covers (pending_of self.old) (piece_of piece.now) }
+        ensures outcome { IfOk result (λ o. IsPieceOutcome self.old (piece_of piece.now) o) }
+        ensures keeps { OnOk result (KeepsMore self.old self.new ((piece_of piece.now) ∷ [])) }
         ensures sizes { sizes_of self.new ≡ sizes_of self.old }
         ensures rank { rank_of self.new ≡ rank_of self.old }
         ensures counts { counts_of self.new ≡ counts_of self.old }
         ensures counted { IfOk result (λ o. (is_idle o ≡ false) × (is_saved o ≡ false) × (is_crashed o ≡ false)) }
-        ensures kept { IfOk result (λ o. o ≢ Outcome.Accepted → (fold_of self.new ≡ fold_of self.old) × ((group plane : ℕ) → has_mark self.new group plane ≡ has_mark self.old group plane)) }
-        ensures memory { OnErr result (piece.now.count < width (block (sizes_of self.old) (rank_of self.old))) }
+        ensures kept { IfOk result (λ o. o ≢ Outcome.Accepted → SameRows self.old self.new) }
+        ensures pending { IfOk result (λ o. IsUnkept o → pending_of self.new ≡ pending_of self.old) }
+        ensures memory { OnErr result (IsPartial (pending_of self.old) (piece_of piece.now)) }
         ensures err { OnErr result (IsSame self.old self.new) }
     {
-        if self.marks.has(piece.group(), piece.step()) {
-            return Ok(Outcome::Replay);
-        }
+        self.shape.valid();
+        self.pending.offer(piece)?;
+        self.marks.set(piece.group(), piece.step());
+        self.fold.add_block(piece.step(), piece);
+        Ok(Outcome::Accepted)
+    }
+
+    /// Takes a piece of a part of the rank's block whose key is not marked. Where it completes its key, the key is marked, and
+    /// the rows of all its pieces are added and let go.
+    fn take_part(&mut self, piece: &PieceView<'_>) -> Result<Outcome, NoMemory>
+        requires fits { piece_reason (sizes_of self.old) (rank_of self.old) (piece_of piece.now) ≡ None }
+        requires absent { has_mark self.old (piece_of piece.now).group (piece_of piece.now).plane ≡ false }
+        requires part { IsPartial (pending_of self.old) (piece_of piece.now) }
+        ensures outcome { IfOk result (λ o. IsPieceOutcome self.old (piece_of piece.now) o) }
+        ensures keeps { OnOk result (KeepsMore self.old self.new ((piece_of piece.now) ∷ [])) }
+        ensures sizes { sizes_of self.new ≡ sizes_of self.old }
+        ensures rank { rank_of self.new ≡ rank_of self.old }
+        ensures counts { counts_of self.new ≡ counts_of self.old }
+        ensures counted { IfOk result (λ o. (is_idle o ≡ false) × (is_saved o ≡ false) × (is_crashed o ≡ false)) }
+        ensures kept { IfOk result (λ o. o ≢ Outcome.Accepted → SameRows self.old self.new) }
+        ensures pending { IfOk result (λ o. IsUnkept o → pending_of self.new ≡ pending_of self.old) }
+        ensures memory { OnErr result (IsPartial (pending_of self.old) (piece_of piece.now)) }
+        ensures err { OnErr result (IsSame self.old self.new) }
+    {
+        self.shape.valid();
         let answer = self.pending.offer(piece)?;
         match answer {
             Assembled::Kept => Ok(Outcome::Kept),
             Assembled::Stale => Ok(Outcome::Stale),
             Assembled::Repeated => Ok(Outcome::Repeated),
             Assembled::Complete => {
-                self.accept(piece);
+                let key = GroupStep {
+                    step: piece.step(),
+                    group: piece.group(),
+                };
+                self.marks.set(key.group, key.step);
+                self.fold.add_block(key.step, &self.pending.rows(key));
+                self.pending.drop_key(key);
                 Ok(Outcome::Accepted)
             }
         }
     }
 
-    /// Takes an event: what becomes of it, and the marks, rows and pending pieces with it. It counts nothing.
-    fn take(&mut self, kind: LaneKind, view: &FrameView<'_>) -> Result<Outcome, NoMemory>
-        ensures outcome { (pieces : List Piece) → AllByRecursion (Fits (sizes_of self.old) (rank_of self.old)) pieces → Keeps self.old pieces → IfOk result (λ o. o ≡ outcome_after (sizes_of self.old) (rank_of self.old) pieces kind (frame_of view.now)) }
-        ensures keeps { (pieces : List Piece) → AllByRecursion (Fits (sizes_of self.old) (rank_of self.old)) pieces → Keeps self.old pieces → OnOk result (Keeps self.new (pieces ++ option_to_list (frame_piece (sizes_of self.old) (rank_of self.old) kind (frame_of view.now)))) }
+    /// Takes a piece that fits the rank: adds the rows of its key where it completes it, and marks the key.
+    fn take_piece(&mut self, piece: &PieceView<'_>) -> Result<Outcome, NoMemory>
+        requires { piece_reason (sizes_of self.old) (rank_of self.old) (piece_of piece.now) ≡ None }
+        ensures outcome { IfOk result (λ o. IsPieceOutcome self.old (piece_of piece.now) o) }
+        ensures keeps { OnOk result (KeepsMore self.old self.new ((piece_of piece.now) ∷ [])) }
         ensures sizes { sizes_of self.new ≡ sizes_of self.old }
         ensures rank { rank_of self.new ≡ rank_of self.old }
         ensures counts { counts_of self.new ≡ counts_of self.old }
-        ensures saved { IfOk result (λ o. is_saved o ≡ is_save (record { kind = kind; frame = frame_of view.now })) }
-        ensures crashed { IfOk result (λ o. is_crashed o ≡ is_crash (record { kind = kind; frame = frame_of view.now })) }
-        ensures kept { IfOk result (λ o. o ≢ Outcome.Accepted → (fold_of self.new ≡ fold_of self.old) × ((group plane : ℕ) → has_mark self.new group plane ≡ has_mark self.old group plane)) }
+        ensures counted { IfOk result (λ o. (is_idle o ≡ false) × (is_saved o ≡ false) × (is_crashed o ≡ false)) }
+        ensures kept { IfOk result (λ o. o ≢ Outcome.Accepted → SameRows self.old self.new) }
+        ensures pending { IfOk result (λ o. IsUnkept o → pending_of self.new ≡ pending_of self.old) }
+        ensures memory { OnErr result (IsSmall self.old (piece_of piece.now)) }
+        ensures err { OnErr result (IsSame self.old self.new) }
+    {
+        if self.marks.has(piece.group(), piece.step()) {
+            return Ok(Outcome::Replay);
+        }
+        let block = self.shape.block(self.rank);
+        if piece.count() == block.end - block.first {
+            self.take_alone(piece)
+        } else {
+            self.take_part(piece)
+        }
+    }
+
+    /// Takes an event: what becomes of it, and the marks, rows and pending pieces with it. It counts nothing.
+    fn take(&mut self, kind: LaneKind, view: &FrameView<'_>) -> Result<Outcome, NoMemory>
+        ensures outcome { IfOk result (λ o. IsEventOutcome self.old kind (frame_of view.now) o) }
+        ensures keeps { OnOk result (KeepsMore self.old self.new (pieces_of self.old kind (frame_of view.now))) }
+        ensures sizes { sizes_of self.new ≡ sizes_of self.old }
+        ensures rank { rank_of self.new ≡ rank_of self.old }
+        ensures counts { counts_of self.new ≡ counts_of self.old }
+        ensures saved { IfOk result (λ o. is_saved o ≡ is_save (as_event kind (frame_of view.now))) }
+        ensures crashed { IfOk result (λ o. is_crashed o ≡ is_crash (as_event kind (frame_of view.now))) }
+        ensures kept { IfOk result (λ o. o ≢ Outcome.Accepted → SameRows self.old self.new) }
+        ensures pending { IfOk result (λ o. IsUnkept o → pending_of self.new ≡ pending_of self.old) }
         ensures idle { IfOk result (λ o. is_idle o ≡ true → self.new ≡ self.old) }
         ensures memory { OnErr result (IsPart (sizes_of self.old) (rank_of self.old) kind (frame_of view.now)) }
         ensures err { OnErr result (IsSame self.old self.new) }
@@ -286,17 +306,18 @@ impl<F: RowFold> RankCore<F> {
         requires room { total_count (counts_of self.old) < 2 ^ 64 - 1 }
 
         // What the core stands for.
-        ensures outcome { (history : List LaneEvent) → StandsFor self.old history → IfOk result (λ o. o ≡ outcome (sizes_of self.old) (rank_of self.old) (surviving history) (record { kind = kind; frame = frame_of view.now })) }
-        ensures stands { (history : List LaneEvent) → StandsFor self.old history → is_crash (record { kind = kind; frame = frame_of view.now }) ≡ false → OnOk result (StandsFor self.new (history ++ record { kind = kind; frame = frame_of view.now } ∷ [])) }
+        ensures outcome { IfOk result (λ o. IsOutcome self.old (as_event kind (frame_of view.now)) o) }
+        ensures stands { OnOk result (StandsOn self.old self.new (as_event kind (frame_of view.now))) }
 
         // What holds of every core.
         ensures sizes { sizes_of self.new ≡ sizes_of self.old }
         ensures rank { rank_of self.new ≡ rank_of self.old }
         ensures counted { IfOk result (λ o. counts_of self.new ≡ counted (counts_of self.old) o) }
         ensures sum { total_count (counts_of self.new) ≤ total_count (counts_of self.old) + 1 }
-        ensures saved { IfOk result (λ o. is_saved o ≡ is_save (record { kind = kind; frame = frame_of view.now })) }
-        ensures crashed { IfOk result (λ o. is_crashed o ≡ is_crash (record { kind = kind; frame = frame_of view.now })) }
-        ensures kept { IfOk result (λ o. o ≢ Outcome.Accepted → (fold_of self.new ≡ fold_of self.old) × ((group plane : ℕ) → has_mark self.new group plane ≡ has_mark self.old group plane)) }
+        ensures saved { IfOk result (λ o. is_saved o ≡ is_save (as_event kind (frame_of view.now))) }
+        ensures crashed { IfOk result (λ o. is_crashed o ≡ is_crash (as_event kind (frame_of view.now))) }
+        ensures kept { IfOk result (λ o. o ≢ Outcome.Accepted → SameRows self.old self.new) }
+        ensures pending { IfOk result (λ o. IsUnkept o → pending_of self.new ≡ pending_of self.old) }
         ensures idle { IfOk result (λ o. is_idle o ≡ true → self.new ≡ self.old) }
 
         ensures memory { OnErr result (IsPart (sizes_of self.old) (rank_of self.old) kind (frame_of view.now)) }
@@ -309,7 +330,8 @@ impl<F: RowFold> RankCore<F> {
 
     /// After a crash the core of the last save stands for the whole history, and where there was no save the core before any event does.
     pub fn after_crash(&self)
-        ensures { (history : List LaneEvent) (e : LaneEvent) → is_crash e ≡ true → StandsFor self.now (before_last_save history) → StandsFor self.now (history ++ e ∷ []) }
+        ensures { (history : List LaneEvent) (e : LaneEvent) → is_crash e ≡ true
+            → StandsFor self.now (before_last_save history) → StandsFor self.now (history ++ e ∷ []) }
     {
         self.shape.valid();
     }

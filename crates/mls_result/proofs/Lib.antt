@@ -1,4 +1,5 @@
 pub mod CellText
+pub mod CellWords
 pub mod Ends
 pub mod Named
 pub mod Numbers

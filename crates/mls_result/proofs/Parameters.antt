@@ -14,7 +14,8 @@ use Rattle.mls_cov.specs.declared.martinez.Martinez.{Martinez}
 use Rattle.mls_cov.specs.declared.martinez.IndexParts.{IndexParts}
 use Rattle.mls_cov.specs.Standing.{count_of, sums_in, ArePartsOf}
 use Rattle.mls_field.specs.Kept.{HasProducts}
-use Rattle.mls_result.specs.Words.{sobol_words, parameter_words}
+use Rattle.mls_result.specs.Words.{parameter_words, first_of, total_of}
+use Rattle.mls_result.proofs.Splits.{sobol_words-split}
 
 abbrev pub parameter_line : CellSums → ℕ × Parameter → List ℕ
 parameter_line c p = sums_sobol c p.0 p.1
@@ -63,9 +64,10 @@ parts_are k p c m parts in_p has are =
     }
 
 words_are : (k : ℕ) (p : Parameter) (c : CellSums) (name : List ℕ) (parts : IndexParts) → p.name ≡ name → AreOf k c parts → sums_sobol c k p ≡ parameter_words name parts
-unfolding sums_sobol sobol_words
+unfolding sums_sobol
 words_are k p c name parts named are =
-    λ i. said_words (named i) (rho6 (sym are.cov_b i) (sym are.var_b i) (sym are.var_c i)) (option_map (λ r. pos 1000000 -ℤ r) (rho6 (sym are.cov_a i) (sym are.var_a i) (sym are.var_c i))) (sym are.cov_b i) (sym are.cov_a i) (sym are.var_a i) (sym are.var_b i) (sym are.var_c i)
+    (λ i. said_words (named i) (rho6 (sym are.cov_b i) (sym are.var_b i) (sym are.var_c i)) (option_map (λ r. pos 1000000 -ℤ r) (rho6 (sym are.cov_a i) (sym are.var_a i) (sym are.var_c i))) (sym are.cov_b i) (sym are.cov_a i) (sym are.var_a i) (sym are.var_b i) (sym are.var_c i))
+    ∙ sobol_words-split name (first_of parts) (total_of parts) parts.cov_b parts.cov_a parts.var_a parts.var_b parts.var_c
 
 pub parameter_at : (c : CellSums) (k : ℕ) (ps : List Parameter) (name : List ℕ) (parts : IndexParts) → k < length ps → option_map (λ (p : Parameter). p.name) (element ps k) ≡ Some name → AreOf k c parts → parameter_words name parts ≡ parameter_line c (get_or (enumerate_from 0 ps) k some_pair)
 parameter_at c k ps name parts here named are =

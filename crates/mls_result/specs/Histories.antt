@@ -1,19 +1,12 @@
 -- The text of a study from the histories of its ranks.
-use Rattle.std.specs.Prelude.{◌≡◌, ℕ, ◌-◌, ◌<◌, List, [], length, get_or, map, ℤ, Some, None}
+use Rattle.std.specs.Prelude.{◌≡◌, ℕ, ◌-◌, ◌<◌, List, [], length, get_or, map, Some, None}
 use Rattle.mls_model.specs.declared.lanes.LaneLine.{LaneLine}
-use Rattle.mls_model.specs.declared.outcomes.Counts.{Counts}
-use Rattle.mls_model.specs.Numbers.{below, element}
+use Rattle.mls_model.specs.Numbers.{element}
 use Rattle.mls_model.specs.Studies.{Sizes, Study}
 use Rattle.mls_model.specs.Blocks.{block, rank_of}
 use Rattle.mls_model.specs.CellSums.{CellSums}
 use Rattle.mls_model.specs.SumsText.{sums_said, text_of_sums}
-use Rattle.mls_model.specs.Frames.{Piece}
 use Rattle.mls_model.specs.Histories.{LaneEvent}
-use Rattle.mls_model.specs.Survival.{surviving}
-use Rattle.mls_model.specs.Fitting.{fitting}
-use Rattle.mls_model.specs.Outcomes.{counts}
-use Rattle.mls_model.specs.AcceptedRows.{rows}
-use Rattle.mls_model.specs.ResultText.{text_of}
 use Rattle.mls_field.specs.declared.fold.RowFold.{Ghosts}
 use Rattle.mls_field.specs.declared.field.Field.{Field}
 use Rattle.mls_field.specs.Kept.{sums_at}

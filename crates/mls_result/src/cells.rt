@@ -1,22 +1,23 @@
 //! What is said of a cell, from the sums that a rank keeps of it.
 
 ghost use Rattle.std.specs.Prelude.{◌≡◌, ◌<◌, ◌≤◌, ◌-◌, ◌++◌, ◌&&◌, [], cond, length, nat_lt};
-ghost use Rattle.mls_model.specs.Studies.{planes, plane_of, shows};
-ghost use Rattle.mls_model.specs.Blocks.{block, width};
+ghost use Rattle.mls_model.specs.Studies.{plane_of, shows};
+ghost use Rattle.mls_model.specs.Blocks.{block};
 ghost use Rattle.mls_model.specs.ResultText.{power_line, variance_line, third_line, exceed_words};
 ghost use Rattle.mls_model.specs.SumsText.{variance_top_of, third_top_of, sums_powers, sums_extrema, sums_indices, sums_statistics, sums_text};
 ghost use Rattle.mls_rank.specs.Cores.{sizes_of, rank_of as core_rank};
 ghost use Rattle.mls_result.specs.Histories.{core_sums};
-ghost use Rattle.mls_field.specs.Stands.{shape_of, rank_of};
+ghost use Rattle.mls_result.specs.Places.{IsCellOf};
+ghost use Rattle.mls_field.specs.Stands.{shape_of};
 ghost use Rattle.mls_field.specs.Kept.{sums_at};
-ghost use Rattle.mls_text.specs.Writing.{Writes};
+ghost use Rattle.mls_text.specs.Writing.{WritesTo};
 ghost use Rattle.mls_model.specs.declared.studies.Statistic.TheVariants.{Power, Extrema, Exceed, Sobol};
 
-use crate::exceed::put_exceed_line;
+use crate::exceed::exceed_line;
 use crate::extrema::put_extrema_line;
 use crate::head::put_step;
 use crate::indices::put_sobol_lines;
-use crate::lines::{Moments, put_powers, put_third, put_variance};
+use crate::lines::{Moments, power_lines};
 use mls_base::faults::Failed;
 use mls_base::outside::Sink;
 use mls_field::field::Field;
@@ -27,15 +28,14 @@ use mls_text::put_bytes;
 /// Writes the power lines of a cell without samples.
 #[tactic(auto, unfolding(mls_model::specs::ResultText::power_line, mls_model::specs::ResultText::variance_line, mls_model::specs::ResultText::third_line))]
 fn put_no_powers<O: Sink>(out: &mut O) -> Result<(), Failed>
-    ensures { Writes result (power_line [] ++ (variance_line [] ++ third_line [])) (O.told out.old) (O.told out.new) (O.faults out.old) (O.faults out.new) }
+    ensures { WritesTo O.told O.faults out.old out.new result (power_line [] ++ (variance_line [] ++ third_line [])) }
 {
     put_bytes(out, b"power -\nvariance -\nthird -\n")
 }
 
 /// The tops of a cell's variance and third central moment.
 fn moments_of(field: &Field, step: u32, cell: u32) -> Moments
-    requires step_in { step < planes (shape_of field.now) }
-    requires cell_in { cell < width (block (shape_of field.now) (rank_of field.now)) }
+    requires cell { IsCellOf field.now step cell }
     ensures variance { result.variance ≡ variance_top_of (sums_at field.now step cell) }
     ensures third { result.third ≡ third_top_of (sums_at field.now step cell) }
 {
@@ -45,16 +45,17 @@ fn moments_of(field: &Field, step: u32, cell: u32) -> Moments
     }
 }
 
-/// Writes the power sums, the variance and the third central moment of a cell's values. A step is the number of a plane, and a cell is a place in the block.
+/// Writes the power sums, the variance and the third central moment of a cell's values. A step is the number of a
+/// plane, and a cell is a place in the block.
 pub fn put_power_lines<O: Sink>(
     out: &mut O,
     field: &Field,
     step: u32,
     cell: u32,
 ) -> Result<(), Failed>
-    requires step_in { step < planes (shape_of field.now) }
-    requires cell_in { cell < width (block (shape_of field.now) (rank_of field.now)) }
-    ensures { Writes result (sums_powers (shape_of field.now).signed (sums_at field.now step cell)) (O.told out.old) (O.told out.new) (O.faults out.old) (O.faults out.new) }
+    requires cell { IsCellOf field.now step cell }
+    ensures { WritesTo O.told O.faults out.old out.new result
+        (sums_powers (shape_of field.now).signed (sums_at field.now step cell)) }
 {
     let rows = field.rows(step);
     if rows == 0 {
@@ -62,9 +63,7 @@ pub fn put_power_lines<O: Sink>(
     }
     let powers = field.powers(step, cell);
     let moments = moments_of(field, step, cell);
-    put_powers(out, &powers)?;
-    put_variance(out, &moments, 2 * rows)?;
-    put_third(out, &moments, 2 * rows)
+    power_lines(&powers, &moments, 2 * rows).put(out)
 }
 
 /// Writes the power lines of a cell where the study shows them.
@@ -76,9 +75,9 @@ fn put_power<O: Sink>(
     cell: u32,
 ) -> Result<(), Failed>
     requires sizes { shape_of field.now ≡ study.now.sizes }
-    requires step_in { step < planes (shape_of field.now) }
-    requires cell_in { cell < width (block (shape_of field.now) (rank_of field.now)) }
-    ensures { Writes result (cond (shows study.now Power) (sums_powers study.now.sizes.signed (sums_at field.now step cell)) []) (O.told out.old) (O.told out.new) (O.faults out.old) (O.faults out.new) }
+    requires cell { IsCellOf field.now step cell }
+    ensures { let text = sums_powers study.now.sizes.signed (sums_at field.now step cell) in
+        WritesTo O.told O.faults out.old out.new result (cond (shows study.now Power) text []) }
 {
     if study.shows(Statistic::Power) {
         return put_power_lines(out, field, step, cell);
@@ -95,9 +94,9 @@ fn put_extrema<O: Sink>(
     cell: u32,
 ) -> Result<(), Failed>
     requires sizes { shape_of field.now ≡ study.now.sizes }
-    requires step_in { step < planes (shape_of field.now) }
-    requires cell_in { cell < width (block (shape_of field.now) (rank_of field.now)) }
-    ensures { Writes result (cond (shows study.now Extrema) (sums_extrema study.now.sizes.signed (sums_at field.now step cell)) []) (O.told out.old) (O.told out.new) (O.faults out.old) (O.faults out.new) }
+    requires cell { IsCellOf field.now step cell }
+    ensures { let text = sums_extrema study.now.sizes.signed (sums_at field.now step cell) in
+        WritesTo O.told O.faults out.old out.new result (cond (shows study.now Extrema) text []) }
 {
     if study.shows(Statistic::Extrema) {
         return put_extrema_line(out, &study.shape(), field, step, cell);
@@ -121,13 +120,14 @@ fn put_exceed<O: Sink>(
     cell: u32,
 ) -> Result<(), Failed>
     requires sizes { shape_of field.now ≡ study.now.sizes }
-    requires step_in { step < planes (shape_of field.now) }
-    requires cell_in { cell < width (block (shape_of field.now) (rank_of field.now)) }
-    ensures { Writes result (cond (shows study.now Exceed && nat_lt 0 (length study.now.sizes.thresholds)) (exceed_words (sums_at field.now step cell).above) []) (O.told out.old) (O.told out.new) (O.faults out.old) (O.faults out.new) }
+    requires cell { IsCellOf field.now step cell }
+    ensures { let has_line = shows study.now Exceed && nat_lt 0 (length study.now.sizes.thresholds) in
+        let text = exceed_words (sums_at field.now step cell).above in
+        WritesTo O.told O.faults out.old out.new result (cond has_line text []) }
 {
     if has_exceed_line(study) {
         let thresholds = study.shape().thresholds();
-        return put_exceed_line(out, &field.exceed(step, cell), thresholds);
+        return exceed_line(&field.exceed(step, cell), thresholds).put(out);
     }
     Ok(())
 }
@@ -141,9 +141,9 @@ fn put_indices<O: Sink>(
     cell: u32,
 ) -> Result<(), Failed>
     requires sizes { shape_of field.now ≡ study.now.sizes }
-    requires step_in { step < planes (shape_of field.now) }
-    requires cell_in { cell < width (block (shape_of field.now) (rank_of field.now)) }
-    ensures { Writes result (cond (shows study.now Sobol) (sums_indices study.now (sums_at field.now step cell)) []) (O.told out.old) (O.told out.new) (O.faults out.old) (O.faults out.new) }
+    requires cell { IsCellOf field.now step cell }
+    ensures { WritesTo O.told O.faults out.old out.new result
+        (cond (shows study.now Sobol) (sums_indices study.now (sums_at field.now step cell)) []) }
 {
     if study.shows(Statistic::Sobol) {
         let parameters = study.shape().parameters();
@@ -161,9 +161,9 @@ fn put_statistics<O: Sink>(
     cell: u32,
 ) -> Result<(), Failed>
     requires sizes { shape_of field.now ≡ study.now.sizes }
-    requires step_in { step < planes (shape_of field.now) }
-    requires cell_in { cell < width (block (shape_of field.now) (rank_of field.now)) }
-    ensures { Writes result (sums_statistics study.now (sums_at field.now step cell)) (O.told out.old) (O.told out.new) (O.faults out.old) (O.faults out.new) }
+    requires cell { IsCellOf field.now step cell }
+    ensures { WritesTo O.told O.faults out.old out.new result
+        (sums_statistics study.now (sums_at field.now step cell)) }
 {
     put_power(out, study, field, step, cell)?;
     put_extrema(out, study, field, step, cell)?;
@@ -185,7 +185,8 @@ pub fn put_cell<O: Sink>(
     requires field_in { field < study.now.sizes.fields }
     requires first { (block study.now.sizes (core_rank core.now)).first ≤ cell }
     requires end { cell < (block study.now.sizes (core_rank core.now)).end }
-    ensures { Writes result (sums_text study.now step field cell (core_sums core.now (plane_of study.now.sizes step field) cell)) (O.told out.old) (O.told out.new) (O.faults out.old) (O.faults out.new) }
+    ensures { let sums = core_sums core.now (plane_of study.now.sizes step field) cell in
+        WritesTo O.told O.faults out.old out.new result (sums_text study.now step field cell sums) }
 {
     let shape = core.shape();
     let plane = shape.plane(step, field);

@@ -1,74 +1,89 @@
-//! The head of the text.
+//! The head of the text, and the first line of a cell.
 
-ghost use Rattle.std.specs.Prelude.{◌≡◌, ◌<◌, ◌++◌};
+ghost use Rattle.std.specs.Prelude.{◌≡◌, ◌+◌, ◌<◌, ◌≤◌, ◌++◌, length};
 ghost use Rattle.mls_model.specs.ResultText.{study_line, step_line, fields_words, field_words};
-ghost use Rattle.mls_text.specs.Writing.{Writes};
-ghost use Rattle.mls_result.specs.Words.{fields_said, study_start, title_words};
+ghost use Rattle.mls_text.specs.Writing.{WritesTo};
+ghost use Rattle.mls_result.specs.Words.{field_start, fields_said, title_words};
 
-use crate::lines::{put_cell_words, put_line_end, put_step_start, put_study_start, put_title};
-use itoa::Buffer;
+use crate::lines::{cell_words, step_start, study_start};
 use mls_base::faults::Failed;
 use mls_base::outside::Sink;
 use mls_study::Study;
-use mls_text::put_pieces;
+use mls_text::{Line, put_bytes};
 
-/// Writes the number of fields.
-#[tactic(auto, unfolding(crate::specs::Words::fields_said))]
-fn put_fields_said<O: Sink>(out: &mut O, fields: u32) -> Result<(), Failed>
-    ensures { Writes result (fields_said fields) (O.told out.old) (O.told out.new) (O.faults out.old) (O.faults out.new) }
+/// Takes the number of fields behind a line.
+#[tactic(auto, using(mls_text::proofs::Writing::pieces), unfolding(crate::specs::Words::fields_said))]
+fn add_fields_said(line: &mut Line, fields: u32)
+    requires { length line.old ≤ 300 }
+    ensures text { line.new ≡ line.old ++ fields_said fields }
+    ensures size { length line.new ≤ length line.old + 18 }
 {
-    let mut number = Buffer::new();
-    put_pieces(
-        out,
-        &[b" fields ".as_slice(), number.format(fields).as_bytes()],
-    )
+    line.text(b" fields ");
+    line.number(fields);
 }
 
-/// Writes the number of fields where the study names them.
-fn put_fields<O: Sink>(out: &mut O, study: &Study) -> Result<(), Failed>
-    ensures { Writes result (fields_words study.now) (O.told out.old) (O.told out.new) (O.faults out.old) (O.faults out.new) }
+/// Takes the number of fields where the study names them.
+fn add_fields(line: &mut Line, study: &Study)
+    requires { length line.old ≤ 300 }
+    ensures text { line.new ≡ line.old ++ fields_words study.now }
+    ensures size { length line.new ≤ length line.old + 18 }
 {
     if study.named() {
-        return put_fields_said(out, study.shape().fields());
+        add_fields_said(line, study.shape().fields());
     }
-    Ok(())
 }
 
-/// Begins the study line.
-fn put_sizes<O: Sink>(out: &mut O, study: &Study) -> Result<(), Failed>
-    ensures { Writes result (study_start study.now.sizes) (O.told out.old) (O.told out.new) (O.faults out.old) (O.faults out.new) }
+/// The study line.
+fn study_line(study: &Study) -> Line
+    ensures { result ≡ study_line study.now }
 {
-    put_study_start(out, &study.shape())
+    let mut line = study_start(&study.shape());
+    add_fields(&mut line, study);
+    line.text(b"\n");
+    line
 }
 
-/// Writes the study line.
-pub fn put_study<O: Sink>(out: &mut O, study: &Study) -> Result<(), Failed>
-    ensures { Writes result (study_line study.now) (O.told out.old) (O.told out.new) (O.faults out.old) (O.faults out.new) }
+/// Writes the first line.
+#[tactic(auto, unfolding(crate::specs::Words::title_words))]
+fn put_title<O: Sink>(out: &mut O) -> Result<(), Failed>
+    ensures { WritesTo O.told O.faults out.old out.new result title_words }
 {
-    put_sizes(out, study)?;
-    put_fields(out, study)?;
-    put_line_end(out)
+    put_bytes(out, b"melissa-result 1\n")
 }
 
 /// Writes the title and the study line.
 #[tactic(auto, using(mls_text::proofs::Writing::chain))]
 pub fn put_head<O: Sink>(out: &mut O, study: &Study) -> Result<(), Failed>
-    ensures { Writes result (title_words ++ study_line study.now) (O.told out.old) (O.told out.new) (O.faults out.old) (O.faults out.new) }
+    ensures { WritesTo O.told O.faults out.old out.new result (title_words ++ study_line study.now) }
 {
     put_title(out)?;
-    put_study(out, study)
+    study_line(study).put(out)
+}
+
+/// Writes the word before the name of a field.
+#[tactic(auto, unfolding(crate::specs::Words::field_start))]
+fn put_field_start<O: Sink>(out: &mut O) -> Result<(), Failed>
+    ensures { WritesTo O.told O.faults out.old out.new result field_start }
+{
+    put_bytes(out, b" field ")
+}
+
+/// Writes the name of a field with the word before it.
+#[tactic(auto, using(mls_text::proofs::Writing::chain))]
+fn put_name<O: Sink>(out: &mut O, name: &str) -> Result<(), Failed>
+    ensures { WritesTo O.told O.faults out.old out.new result (field_start ++ name.now) }
+{
+    put_field_start(out)?;
+    put_bytes(out, name.as_bytes())
 }
 
 /// Writes the name of a field where the study names its fields.
 fn put_field<O: Sink>(out: &mut O, study: &Study, field: u32) -> Result<(), Failed>
     requires { field < study.now.sizes.fields }
-    ensures { Writes result (field_words study.now field) (O.told out.old) (O.told out.new) (O.faults out.old) (O.faults out.new) }
+    ensures { WritesTo O.told O.faults out.old out.new result (field_words study.now field) }
 {
     if study.named() {
-        return put_pieces(
-            out,
-            &[b" field ".as_slice(), study.field_name(field).as_bytes()],
-        );
+        return put_name(out, study.field_name(field));
     }
     Ok(())
 }
@@ -83,9 +98,9 @@ pub fn put_step<O: Sink>(
     groups: u32,
 ) -> Result<(), Failed>
     requires { field < study.now.sizes.fields }
-    ensures { Writes result (step_line study.now step field cell groups) (O.told out.old) (O.told out.new) (O.faults out.old) (O.faults out.new) }
+    ensures { WritesTo O.told O.faults out.old out.new result (step_line study.now step field cell groups) }
 {
-    put_step_start(out, step)?;
+    step_start(step).put(out)?;
     put_field(out, study, field)?;
-    put_cell_words(out, cell, groups)
+    cell_words(cell, groups).put(out)
 }

@@ -16,5 +16,5 @@ mod text;
 
 pub use fault::FoldFault;
 pub use ranks::write_ranks;
-pub use status::{FileRole, Unbuilt, Status};
+pub use status::{FileRole, Status, Unbuilt};
 pub use text::write_result;

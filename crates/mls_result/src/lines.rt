@@ -1,19 +1,14 @@
 //! The lines of the result text, one function a line.
 
-ghost use Rattle.std.specs.Prelude.{◌≡◌, ℕ, ◌+◌, ◌*◌, ◌<◌, ◌≤◌, ◌++◌, [], ◌∷◌, ℤ, pos, codes, decimal};
-ghost use Rattle.mls_model.specs.Numbers.{joined};
-ghost use Rattle.mls_model.specs.ResultText.{rank_line, lane_line, lane_lines, kind_word, end_words};
-ghost use Rattle.mls_text.specs.Writing.{Writes};
-ghost use Rattle.mls_result.specs.Words.{line_end, title_words, study_start, study_numbers, step_start, cell_words, lane_start, power_words, variance_words, third_words};
+ghost use Rattle.std.specs.Prelude.{◌≡◌, ◌+◌, ◌≤◌, ◌++◌, length, pos, decimal};
+ghost use Rattle.mls_model.specs.ResultText.{rank_line, lane_line, kind_word, end_words};
+ghost use Rattle.mls_result.specs.Words.{counts_start, study_start, study_numbers, step_start, cell_words, power_words, variance_words, third_words, extrema_words};
 
-use itoa::Buffer;
-use mls_base::faults::Failed;
-use mls_base::outside::Sink;
 use mls_base::shape::Shape;
 use mls_model::lanes::{LaneEnd, LaneKind, LaneLine};
 use mls_model::outcomes::Counts;
 use mls_power::power::Powers;
-use mls_text::{put_bytes, put_pieces};
+use mls_text::Line;
 
 /// The tops of the variance and of the third central moment of a cell's values.
 #[derive(Clone, Copy, Debug)]
@@ -22,57 +17,51 @@ pub struct Moments {
     pub third: i128,
 }
 
-/// Writes the counts of a rank.
-#[tactic(auto, unfolding(mls_model::specs::ResultText::rank_line))]
-pub fn put_rank<O: Sink>(out: &mut O, rank: u64, counts: &Counts) -> Result<(), Failed>
-    ensures { Writes result (rank_line rank counts.now) (O.told out.old) (O.told out.new) (O.faults out.old) (O.faults out.new) }
+/// The number of a rank and the counts of what was not foreign to it.
+fn counts_start(rank: u64, counts: &Counts) -> Line
+    ensures text { result ≡ counts_start rank counts.now }
+    ensures size { length result ≤ 175 }
 {
-    let mut number = Buffer::new();
-    let mut accepted = Buffer::new();
-    let mut kept = Buffer::new();
-    let mut replay = Buffer::new();
-    let mut stale = Buffer::new();
-    let mut repeated = Buffer::new();
-    let mut f1 = Buffer::new();
-    let mut f2 = Buffer::new();
-    let mut f3 = Buffer::new();
-    let mut f4 = Buffer::new();
-    let mut f5 = Buffer::new();
-    let mut f6 = Buffer::new();
-    put_pieces(
-        out,
-        &[
-            b"rank ".as_slice(),
-            number.format(rank).as_bytes(),
-            b" accepted ".as_slice(),
-            accepted.format(counts.accepted).as_bytes(),
-            b" kept ".as_slice(),
-            kept.format(counts.kept).as_bytes(),
-            b" replay ".as_slice(),
-            replay.format(counts.replay).as_bytes(),
-            b" stale ".as_slice(),
-            stale.format(counts.stale).as_bytes(),
-            b" repeated ".as_slice(),
-            repeated.format(counts.repeated).as_bytes(),
-            b" foreign ".as_slice(),
-            f1.format(counts.f1).as_bytes(),
-            b" ".as_slice(),
-            f2.format(counts.f2).as_bytes(),
-            b" ".as_slice(),
-            f3.format(counts.f3).as_bytes(),
-            b" ".as_slice(),
-            f4.format(counts.f4).as_bytes(),
-            b" ".as_slice(),
-            f5.format(counts.f5).as_bytes(),
-            b" ".as_slice(),
-            f6.format(counts.f6).as_bytes(),
-            b"\n".as_slice(),
-        ],
-    )
+    let mut line = Line::new();
+    line.text(b"rank ");
+    line.number(rank);
+    line.text(b" accepted ");
+    line.number(counts.accepted);
+    line.text(b" kept ");
+    line.number(counts.kept);
+    line.text(b" replay ");
+    line.number(counts.replay);
+    line.text(b" stale ");
+    line.number(counts.stale);
+    line.text(b" repeated ");
+    line.number(counts.repeated);
+    line.text(b" foreign ");
+    line
+}
+
+/// The counts of a rank.
+pub fn rank_line(rank: u64, counts: &Counts) -> Line
+    ensures { result ≡ rank_line rank counts.now }
+{
+    let mut line = counts_start(rank, counts);
+    line.number(counts.f1);
+    line.text(b" ");
+    line.number(counts.f2);
+    line.text(b" ");
+    line.number(counts.f3);
+    line.text(b" ");
+    line.number(counts.f4);
+    line.text(b" ");
+    line.number(counts.f5);
+    line.text(b" ");
+    line.number(counts.f6);
+    line.text(b"\n");
+    line
 }
 
 fn kind_bytes(kind: LaneKind) -> &'static [u8]
-    ensures { result.now ≡ kind_word kind }
+    ensures word { result.now ≡ kind_word kind }
+    ensures short { length result.now ≤ 7 }
 {
     match kind {
         LaneKind::Client => b"client".as_slice(),
@@ -80,201 +69,87 @@ fn kind_bytes(kind: LaneKind) -> &'static [u8]
     }
 }
 
-/// Writes words and a place.
-#[tactic(auto, using(mls_text::proofs::Writing::chain))]
-fn put_place<O: Sink>(out: &mut O, words: &[u8], at: u64) -> Result<(), Failed>
-    ensures { Writes result (words.now ++ decimal at) (O.told out.old) (O.told out.new) (O.faults out.old) (O.faults out.new) }
+/// Takes words and a place behind a line.
+fn add_place(line: &mut Line, words: &[u8], at: u64)
+    requires line { length line.old ≤ 100 }
+    requires words { length words.now ≤ 20 }
+    ensures text { line.new ≡ line.old ++ (words.now ++ decimal at) }
+    ensures size { length line.new ≤ length line.old + 40 }
 {
-    let mut place = Buffer::new();
-    put_bytes(out, words)?;
-    put_bytes(out, place.format(at).as_bytes())
+    line.text(words);
+    line.number(at);
 }
 
-/// Ends a line.
-#[tactic(auto, unfolding(crate::specs::Words::line_end))]
-pub fn put_line_end<O: Sink>(out: &mut O) -> Result<(), Failed>
-    ensures { Writes result line_end (O.told out.old) (O.told out.new) (O.faults out.old) (O.faults out.new) }
-{
-    put_bytes(out, b"\n")
-}
-
-/// Writes power sums of values.
-#[tactic(auto, unfolding(crate::specs::Words::power_words))]
-pub fn put_powers<O: Sink>(out: &mut O, powers: &Powers) -> Result<(), Failed>
-    ensures { Writes result (power_words powers.now.p1 (pos powers.now.p2) powers.now.p3 powers.now.p4) (O.told out.old) (O.told out.new) (O.faults out.old) (O.faults out.new) }
-{
-    let mut first = Buffer::new();
-    let mut second = Buffer::new();
-    let mut third = Buffer::new();
-    let mut fourth = Buffer::new();
-    put_pieces(
-        out,
-        &[
-            b"power ".as_slice(),
-            first.format(powers.p1).as_bytes(),
-            b" ".as_slice(),
-            second.format(powers.p2).as_bytes(),
-            b" ".as_slice(),
-            third.format(powers.p3).as_bytes(),
-            b" ".as_slice(),
-            fourth.format(powers.p4).as_bytes(),
-            b"\n".as_slice(),
-        ],
-    )
-}
-
-/// Writes a variance over N values: its top over N · (N − 1).
-#[tactic(auto, unfolding(crate::specs::Words::variance_words))]
-pub fn put_variance<O: Sink>(out: &mut O, moments: &Moments, n: u32) -> Result<(), Failed>
-    requires { 1 ≤ n }
-    ensures { Writes result (variance_words moments.now.variance n) (O.told out.old) (O.told out.new) (O.faults out.old) (O.faults out.new) }
-{
-    let mut over = Buffer::new();
-    let mut under = Buffer::new();
-    let n = n as u64;
-    put_pieces(
-        out,
-        &[
-            b"variance ".as_slice(),
-            over.format(moments.variance).as_bytes(),
-            b"/".as_slice(),
-            under.format(n * (n - 1)).as_bytes(),
-            b"\n".as_slice(),
-        ],
-    )
-}
-
-/// Writes a third central moment over N values: its top over N³.
-#[tactic(auto, unfolding(crate::specs::Words::third_words))]
-pub fn put_third<O: Sink>(out: &mut O, moments: &Moments, n: u32) -> Result<(), Failed>
-    requires { n ≤ 131070 }
-    ensures { Writes result (third_words moments.now.third n) (O.told out.old) (O.told out.new) (O.faults out.old) (O.faults out.new) }
-{
-    let mut over = Buffer::new();
-    let mut under = Buffer::new();
-    let n = n as u64;
-    put_pieces(
-        out,
-        &[
-            b"third ".as_slice(),
-            over.format(moments.third).as_bytes(),
-            b"/".as_slice(),
-            under.format(n * (n * n)).as_bytes(),
-            b"\n".as_slice(),
-        ],
-    )
-}
-
-/// Writes how a lane ended.
-fn put_end<O: Sink>(out: &mut O, end: LaneEnd) -> Result<(), Failed>
-    ensures { Writes result (end_words end) (O.told out.old) (O.told out.new) (O.faults out.old) (O.faults out.new) }
+/// Takes how a lane ended behind a line.
+fn add_end(line: &mut Line, end: LaneEnd)
+    requires { length line.old ≤ 100 }
+    ensures text { line.new ≡ line.old ++ end_words end }
+    ensures size { length line.new ≤ length line.old + 40 }
 {
     match end {
-        LaneEnd::Clean => return put_bytes(out, b"clean"),
-        LaneEnd::Cut { at } => return put_place(out, b"cut at ", at),
-        LaneEnd::BadKind { at } => return put_place(out, b"bad-kind at ", at),
-        LaneEnd::BadLength { at } => return put_place(out, b"bad-length at ", at),
-        LaneEnd::Fault { at } => return put_place(out, b"fault at ", at),
-        LaneEnd::Full { at } => return put_place(out, b"full at ", at),
+        LaneEnd::Clean => line.text(b"clean"),
+        LaneEnd::Cut { at } => add_place(line, b"cut at ", at),
+        LaneEnd::BadKind { at } => add_place(line, b"bad-kind at ", at),
+        LaneEnd::BadLength { at } => add_place(line, b"bad-length at ", at),
+        LaneEnd::Fault { at } => add_place(line, b"fault at ", at),
+        LaneEnd::Full { at } => add_place(line, b"full at ", at),
     }
 }
 
-/// Begins what is said of a lane.
-#[tactic(auto, unfolding(crate::specs::Words::lane_start))]
-fn put_lane_start<O: Sink>(out: &mut O, line: &LaneLine) -> Result<(), Failed>
-    ensures { Writes result (lane_start line.now) (O.told out.old) (O.told out.new) (O.faults out.old) (O.faults out.new) }
+/// What is said of a lane.
+#[tactic(auto, using(mls_text::proofs::Writing::pieces), unfolding(mls_model::specs::ResultText::lane_line))]
+pub fn lane_line(lane: &LaneLine) -> Line
+    ensures { result ≡ lane_line lane.now }
 {
-    let mut lane = Buffer::new();
-    let mut rank = Buffer::new();
-    let mut events = Buffer::new();
-    put_pieces(
-        out,
-        &[
-            b"lane ".as_slice(),
-            lane.format(line.lane).as_bytes(),
-            b" rank ".as_slice(),
-            rank.format(line.rank).as_bytes(),
-            b" ".as_slice(),
-            kind_bytes(line.kind),
-            b" events ".as_slice(),
-            events.format(line.events).as_bytes(),
-            b" ".as_slice(),
-        ],
-    )
+    let mut line = Line::new();
+    line.text(b"lane ");
+    line.number(lane.lane);
+    line.text(b" rank ");
+    line.number(lane.rank);
+    line.text(b" ");
+    line.text(kind_bytes(lane.kind));
+    line.text(b" events ");
+    line.number(lane.events);
+    line.text(b" ");
+    add_end(&mut line, lane.end);
+    line.text(b"\n");
+    line
 }
 
-/// Writes what is said of a lane.
-pub fn put_lane<O: Sink>(out: &mut O, line: &LaneLine) -> Result<(), Failed>
-    ensures { Writes result (lane_line line.now) (O.told out.old) (O.told out.new) (O.faults out.old) (O.faults out.new) }
-{
-    put_lane_start(out, line)?;
-    put_end(out, line.end)?;
-    put_line_end(out)
-}
-
-/// Writes what is said of each lane.
-#[tactic(auto, unfolding(mls_model::specs::ResultText::lane_lines))]
-pub fn put_lanes<O: Sink>(out: &mut O, lines: &[LaneLine]) -> Result<(), Failed>
-    ensures { Writes result (lane_lines lines.now) (O.told out.old) (O.told out.new) (O.faults out.old) (O.faults out.new) }
-{
-    for line in lines {
-        put_lane(out, line)?;
-    }
-    Ok(())
-}
-
-/// Writes the first line.
-#[tactic(auto, unfolding(crate::specs::Words::title_words))]
-pub fn put_title<O: Sink>(out: &mut O) -> Result<(), Failed>
-    ensures { Writes result title_words (O.told out.old) (O.told out.new) (O.faults out.old) (O.faults out.new) }
-{
-    put_bytes(out, b"melissa-result 1\n")
-}
-
-/// Begins the study line, from its numbers.
-#[tactic(auto, unfolding(crate::specs::Words::study_numbers))]
-fn put_study_numbers<O: Sink>(
-    out: &mut O,
+/// The numbers of a study line.
+fn study_numbers(
     cells: u32,
     steps: u32,
     groups: u32,
     parameters: u32,
     ranks: u32,
     clients: u32,
-) -> Result<(), Failed>
-    ensures { Writes result (study_numbers cells steps groups parameters ranks clients) (O.told out.old) (O.told out.new) (O.faults out.old) (O.faults out.new) }
+) -> Line
+    ensures text { result ≡ study_numbers cells steps groups parameters ranks clients }
+    ensures size { length result ≤ 120 }
 {
-    let mut first = Buffer::new();
-    let mut second = Buffer::new();
-    let mut third = Buffer::new();
-    let mut fourth = Buffer::new();
-    let mut fifth = Buffer::new();
-    let mut sixth = Buffer::new();
-    put_pieces(
-        out,
-        &[
-            b"study cells ".as_slice(),
-            first.format(cells).as_bytes(),
-            b" steps ".as_slice(),
-            second.format(steps).as_bytes(),
-            b" groups ".as_slice(),
-            third.format(groups).as_bytes(),
-            b" parameters ".as_slice(),
-            fourth.format(parameters).as_bytes(),
-            b" ranks ".as_slice(),
-            fifth.format(ranks).as_bytes(),
-            b" clients ".as_slice(),
-            sixth.format(clients).as_bytes(),
-        ],
-    )
+    let mut line = Line::new();
+    line.text(b"study cells ");
+    line.number(cells);
+    line.text(b" steps ");
+    line.number(steps);
+    line.text(b" groups ");
+    line.number(groups);
+    line.text(b" parameters ");
+    line.number(parameters);
+    line.text(b" ranks ");
+    line.number(ranks);
+    line.text(b" clients ");
+    line.number(clients);
+    line
 }
 
-/// Begins the study line.
-pub fn put_study_start<O: Sink>(out: &mut O, shape: &Shape) -> Result<(), Failed>
-    ensures { Writes result (study_start shape.now) (O.told out.old) (O.told out.new) (O.faults out.old) (O.faults out.new) }
+/// The study line up to the fields.
+pub fn study_start(shape: &Shape) -> Line
+    ensures text { result ≡ study_start shape.now }
+    ensures size { length result ≤ 120 }
 {
-    put_study_numbers(
-        out,
+    study_numbers(
         shape.cells(),
         shape.steps(),
         shape.groups(),
@@ -284,30 +159,105 @@ pub fn put_study_start<O: Sink>(out: &mut O, shape: &Shape) -> Result<(), Failed
     )
 }
 
-/// Begins a step line.
-#[tactic(auto, unfolding(crate::specs::Words::step_start))]
-pub fn put_step_start<O: Sink>(out: &mut O, step: u32) -> Result<(), Failed>
-    ensures { Writes result (step_start step) (O.told out.old) (O.told out.new) (O.faults out.old) (O.faults out.new) }
+/// The start of a step line.
+#[tactic(auto, using(mls_text::proofs::Writing::pieces), unfolding(crate::specs::Words::step_start))]
+pub fn step_start(step: u32) -> Line
+    ensures { result ≡ step_start step }
 {
-    let mut number = Buffer::new();
-    put_pieces(out, &[b"step ".as_slice(), number.format(step).as_bytes()])
+    let mut line = Line::new();
+    line.text(b"step ");
+    line.number(step);
+    line
 }
 
-/// Ends a step line.
-#[tactic(auto, unfolding(crate::specs::Words::cell_words))]
-pub fn put_cell_words<O: Sink>(out: &mut O, cell: u32, groups: u32) -> Result<(), Failed>
-    ensures { Writes result (cell_words cell groups) (O.told out.old) (O.told out.new) (O.faults out.old) (O.faults out.new) }
+/// The rest of a step line.
+#[tactic(auto, using(mls_text::proofs::Writing::pieces), unfolding(crate::specs::Words::cell_words))]
+pub fn cell_words(cell: u32, groups: u32) -> Line
+    ensures { result ≡ cell_words cell groups }
 {
-    let mut number = Buffer::new();
-    let mut rows = Buffer::new();
-    put_pieces(
-        out,
-        &[
-            b" cell ".as_slice(),
-            number.format(cell).as_bytes(),
-            b" groups ".as_slice(),
-            rows.format(groups).as_bytes(),
-            b"\n".as_slice(),
-        ],
-    )
+    let mut line = Line::new();
+    line.text(b" cell ");
+    line.number(cell);
+    line.text(b" groups ");
+    line.number(groups);
+    line.text(b"\n");
+    line
+}
+
+/// Takes the line of power sums of values behind those so far.
+fn add_powers(line: &mut Line, powers: &Powers)
+    requires { length line.old ≤ 200 }
+    ensures text { line.new ≡ line.old ++ power_words powers.now.p1 (pos powers.now.p2) powers.now.p3 powers.now.p4 }
+    ensures size { length line.new ≤ length line.old + 130 }
+{
+    line.text(b"power ");
+    line.number(powers.p1);
+    line.text(b" ");
+    line.number(powers.p2);
+    line.text(b" ");
+    line.number(powers.p3);
+    line.text(b" ");
+    line.number(powers.p4);
+    line.text(b"\n");
+}
+
+/// Takes the line of a variance over N values: its top over N · (N − 1).
+#[tactic(auto, using(mls_text::proofs::Writing::pieces), unfolding(crate::specs::Words::variance_words))]
+fn add_variance(line: &mut Line, moments: &Moments, n: u32)
+    requires some { 1 ≤ n }
+    requires line { length line.old ≤ 300 }
+    ensures text { line.new ≡ line.old ++ variance_words moments.now.variance n }
+    ensures size { length line.new ≤ length line.old + 71 }
+{
+    let n = n as u64;
+    line.text(b"variance ");
+    line.number(moments.variance);
+    line.text(b"/");
+    line.number(n * (n - 1));
+    line.text(b"\n");
+}
+
+/// Takes the line of a third central moment over N values: its top over N³.
+#[tactic(auto, using(mls_text::proofs::Writing::pieces), unfolding(crate::specs::Words::third_words))]
+fn add_third(line: &mut Line, moments: &Moments, n: u32)
+    requires few { n ≤ 131070 }
+    requires line { length line.old ≤ 300 }
+    ensures { line.new ≡ line.old ++ third_words moments.now.third n }
+{
+    let n = n as u64;
+    line.text(b"third ");
+    line.number(moments.third);
+    line.text(b"/");
+    line.number(n * (n * n));
+    line.text(b"\n");
+}
+
+/// The power sums, the variance and the third central moment of N values, a line each.
+#[tactic(auto, using(mls_text::proofs::Writing::pieces))]
+pub fn power_lines(powers: &Powers, moments: &Moments, n: u32) -> Line
+    requires some { 1 ≤ n }
+    requires few { n ≤ 131070 }
+    ensures { let p = powers.now in
+        let sums = power_words p.p1 (pos p.p2) p.p3 p.p4 in
+        result ≡ sums ++ (variance_words moments.now.variance n ++ third_words moments.now.third n) }
+{
+    let mut line = Line::new();
+    add_powers(&mut line, powers);
+    add_variance(&mut line, moments, n);
+    add_third(&mut line, moments, n);
+    line
+}
+
+/// A least and a greatest value.
+#[tactic(auto, using(mls_text::proofs::Writing::pieces), unfolding(crate::specs::Words::extrema_words))]
+pub fn extrema_line(least: i32, greatest: i32) -> Line
+    ensures { result ≡ extrema_words least greatest }
+{
+    let mut line = Line::new();
+    line.text(b"extrema ");
+    line.number(least);
+    line.text(b" ");
+    line.number(greatest);
+    line.text(b"\n");
+    line
 }

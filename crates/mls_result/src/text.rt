@@ -3,36 +3,20 @@
 ghost use Rattle.std.specs.Prelude.{◌≡◌, ℕ, ◌<◌, ◌≤◌, List};
 ghost use Rattle.mls_model.specs.Histories.{LaneEvent};
 ghost use Rattle.mls_model.specs.ResultText.{history_text, field_text, step_text, cells_text};
-ghost use Rattle.mls_model.specs.Blocks.{block, rank_of};
-ghost use Rattle.mls_text.specs.Writing.{Writes};
+ghost use Rattle.mls_text.specs.Writing.{WritesTo};
 ghost use Rattle.mls_result.specs.Histories.{kept_said, states_text, AreCores, AllStand};
 ghost use Rattle.mls_result.specs.Words.{end_words};
 
 use crate::cells::put_cell;
 use crate::head::put_head;
-use crate::lines::put_lanes;
-use crate::ranks::put_ranks;
+use crate::ranks::{put_lanes, put_ranks};
 use mls_base::faults::Failed;
 use mls_base::outside::Sink;
-use mls_base::shape::Shape;
 use mls_field::field::Field;
 use mls_rank::RankCore;
 use mls_study::Study;
 use mls_tape::LaneLine;
 use mls_text::put_bytes;
-
-/// The rank whose block holds a cell.
-fn rank_of_cell(shape: &Shape, cell: u32) -> u32
-    requires { cell < shape.now.cells }
-    ensures rank_in { result < shape.now.ranks }
-    ensures value { rank_of shape.now cell ≡ Some result }
-    ensures first { (block shape.now result).first ≤ cell }
-    ensures end { cell < (block shape.now result).end }
-{
-    let cells = shape.cells() as u64;
-    let ranks = shape.ranks() as u64;
-    (((cell as u64 + 1) * ranks - 1) / cells) as u32
-}
 
 /// Writes the cells of a step and a field.
 #[tactic(auto, unfolding(mls_model::specs::ResultText::field_text))]
@@ -48,11 +32,12 @@ fn put_cells<O: Sink>(
     requires step_in { step < study.now.sizes.steps }
     requires field_in { field < study.now.sizes.fields }
     requires cells { cells ≡ study.now.sizes.cells }
-    ensures { Writes result (field_text study.now (kept_said study.now cores.now step field)) (O.told out.old) (O.told out.new) (O.faults out.old) (O.faults out.new) }
+    ensures { WritesTo O.told O.faults out.old out.new result
+        (field_text study.now (kept_said study.now cores.now step field)) }
 {
     let shape = study.shape();
     for cell in 0..cells {
-        let rank = rank_of_cell(&shape, cell) as usize;
+        let rank = shape.rank_of(cell) as usize;
         put_cell(out, study, &cores[rank], step, field, cell)?;
     }
     Ok(())
@@ -70,7 +55,8 @@ fn put_fields<O: Sink>(
     requires cores { AreCores study.now.sizes cores.now }
     requires step_in { step < study.now.sizes.steps }
     requires fields { fields ≡ study.now.sizes.fields }
-    ensures { Writes result (step_text study.now (kept_said study.now cores.now step)) (O.told out.old) (O.told out.new) (O.faults out.old) (O.faults out.new) }
+    ensures { WritesTo O.told O.faults out.old out.new result
+        (step_text study.now (kept_said study.now cores.now step)) }
 {
     let cells = study.shape().cells();
     for field in 0..fields {
@@ -89,7 +75,7 @@ fn put_steps<O: Sink>(
 ) -> Result<(), Failed>
     requires cores { AreCores study.now.sizes cores.now }
     requires steps { steps ≡ study.now.sizes.steps }
-    ensures { Writes result (cells_text study.now (kept_said study.now cores.now)) (O.told out.old) (O.told out.new) (O.faults out.old) (O.faults out.new) }
+    ensures { WritesTo O.told O.faults out.old out.new result (cells_text study.now (kept_said study.now cores.now)) }
 {
     let fields = study.shape().fields();
     for step in 0..steps {
@@ -101,7 +87,7 @@ fn put_steps<O: Sink>(
 /// Writes the last line.
 #[tactic(auto, unfolding(crate::specs::Words::end_words))]
 fn put_end<O: Sink>(out: &mut O) -> Result<(), Failed>
-    ensures { Writes result end_words (O.told out.old) (O.told out.new) (O.faults out.old) (O.faults out.new) }
+    ensures { WritesTo O.told O.faults out.old out.new result end_words }
 {
     put_bytes(out, b"end\n")
 }
@@ -114,7 +100,7 @@ fn put_result<O: Sink>(
     lanes: &[LaneLine],
 ) -> Result<(), Failed>
     requires cores { AreCores study.now.sizes cores.now }
-    ensures { Writes result (states_text study.now cores.now lanes.now) (O.told out.old) (O.told out.new) (O.faults out.old) (O.faults out.new) }
+    ensures { WritesTo O.told O.faults out.old out.new result (states_text study.now cores.now lanes.now) }
 {
     put_head(out, study)?;
     put_ranks(out, cores)?;
@@ -132,8 +118,9 @@ pub fn write_result<O: Sink>(
     out: &mut O,
 ) -> Result<(), Failed>
     requires cores { AreCores study.now.sizes cores.now }
-    ensures states { Writes result (states_text study.now cores.now lanes.now) (O.told out.old) (O.told out.new) (O.faults out.old) (O.faults out.new) }
-    ensures histories { (histories : ℕ → List LaneEvent) → AllStand cores.now histories → Writes result (history_text study.now histories lanes.now) (O.told out.old) (O.told out.new) (O.faults out.old) (O.faults out.new) }
+    ensures states { WritesTo O.told O.faults out.old out.new result (states_text study.now cores.now lanes.now) }
+    ensures histories { (histories : ℕ → List LaneEvent) → AllStand cores.now histories →
+        WritesTo O.told O.faults out.old out.new result (history_text study.now histories lanes.now) }
 {
     study.valid();
     put_result(out, study, cores, lanes)

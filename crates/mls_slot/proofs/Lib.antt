@@ -6,3 +6,4 @@ pub mod Values
 pub mod Crash
 pub mod Storing
 pub mod Giving
+pub mod WholeRuns

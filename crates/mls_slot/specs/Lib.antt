@@ -6,3 +6,4 @@ pub mod Known
 pub mod Runs
 pub mod Keepers
 pub mod Silent
+pub mod WholeRuns

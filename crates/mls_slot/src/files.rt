@@ -92,10 +92,13 @@ impl<R: rt::Files + Drop> Disk for FileDisk<R> {
     }
 }
 
+/// The most bytes of the name of a file.
+const LONGEST_NAME: usize = 32;
+
 /// The name of an area's file.
 #[derive(Drop)]
 struct AreaName {
-    bytes: [u8; 32],
+    bytes: [u8; LONGEST_NAME],
     len: usize,
     ghost within: { len ≤ 32 },
 }
@@ -103,7 +106,7 @@ struct AreaName {
 impl AreaName {
     fn of(rank: u32, area: u32) -> Result<AreaName, fmt::Error> {
         let mut name = AreaName {
-            bytes: [0; 32],
+            bytes: [0; LONGEST_NAME],
             len: 0,
         };
         write!(name, "checkpoints/rank-{rank}.{area}")?;
@@ -118,7 +121,7 @@ impl AreaName {
 impl fmt::Write for AreaName {
     fn write_str(&mut self, text: &str) -> fmt::Result {
         let bytes = text.as_bytes();
-        if bytes.len() > 32 - self.len {
+        if bytes.len() > LONGEST_NAME - self.len {
             return Err(fmt::Error);
         }
         let end = self.len + bytes.len();

@@ -1,10 +1,10 @@
 //! What the head of an area tells of it.
 
-ghost use Rattle.std.specs.Prelude.{◌≡◌, ◌≢◌, ℕ, ◌+◌, ◌<◌, ◌≤◌, List, take, length, min, Bool, ◌∷◌, IfSome};
+ghost use Rattle.std.specs.Prelude.{◌≡◌, ◌≢◌, ℕ, ◌+◌, ◌<◌, ◌≤◌, List, take, length, min, Bool, ◌∷◌, None, IfSome};
 ghost use Rattle.std.specs.Int.{w64, to_be_bytes};
 ghost use Rattle.mls_slot.specs.Disks.{Areas};
 ghost use Rattle.mls_slot.specs.Runs.{SameBut};
-ghost use Rattle.mls_slot.specs.Slots.{next};
+ghost use Rattle.mls_slot.specs.Slots.{next, value};
 ghost use Rattle.mls_slot.specs.Known.{is_shut, slot_of, IsHead, AreHeads, IsTarget};
 
 /// A whole slot: its number and the length of its payload in bytes.
@@ -59,6 +59,7 @@ impl Heads {
     /// The area that the next put goes to, which isn't the current one, and its number.
     pub fn target(&self) -> (u32, u8)
         ensures within { result.0 < 2 }
+        ensures first { (areas : Areas) → AreHeads areas self.now → value areas ≡ None → result.0 ≡ 0 }
         ensures target { (areas : Areas) → AreHeads areas self.now → IsTarget areas result.0 result.1 }
     {
         match (self.zero.slot, self.one.slot) {

@@ -7,19 +7,21 @@ ghost use Rattle.std.proofs.Props.{props};
 ghost use Rattle.mls_base.specs.Told.{Rose, raised, replaced, MayCease, GetLeaves, StoreCounts};
 ghost use Rattle.mls_slot.specs.Slots.{value};
 ghost use Rattle.mls_slot.specs.Disks.{Areas, IsLeft, IsAtRest};
+ghost use Rattle.mls_slot.specs.WholeRuns.{CrashInPut, CrashInGet, Gives};
 ghost use Rattle.mls_slot.specs.Runs.{LeavesOnly, Knows, IsOneOf, GivesOnly, SameSeen, FaultedBy, TellsAfter};
 
 use crate::disk::Disk;
+use crate::disk_calls::{begin, store};
 use crate::heads::Heads;
-use crate::steps::{begin, store};
 use mls_base::faults::{Failed, StoreFault};
 use mls_base::outside::Keeper;
 use std::alloc::Global;
 
-/// A keeper of one checkpoint, whose every put survives a crash at any moment once it answered `Ok`.
+/// A keeper of one checkpoint, whose every put survives a crash at any moment once it answered `Ok`. It is never
+/// sound, since a disk may fail where memory is wanted.
 #[derive(Drop)]
 pub struct SlotKeeper<D: Disk + Drop> {
-    pub(crate) disk: D,
+    disk: D,
     begun: Option<Heads>,
     faulted: bool,
     gets: u64,
@@ -27,11 +29,11 @@ pub struct SlotKeeper<D: Disk + Drop> {
 }
 
 impl<D: Disk + Drop> SlotKeeper<D> {
-    ghost use Rattle.mls_slot.specs.Keepers.{told_value};
+    ghost use Rattle.mls_slot.specs.Keepers.{told_value, disk_of};
 
     /// A keeper over a disk. It calls nothing and takes no memory.
     pub fn new(disk: D) -> SlotKeeper<D>
-        ensures disk { result.disk ≡ disk }
+        ensures disk { disk_of result ≡ disk }
         ensures held { ⟦<SlotKeeper<D> as Keeper>⟧.held result ≡ told_value (D.tells disk) false (D.view disk).seen }
         ensures gets { ⟦<SlotKeeper<D> as Keeper>⟧.gets result ≡ 0 }
         // A keeper over an empty disk gives nothing.
@@ -45,6 +47,13 @@ impl<D: Disk + Drop> SlotKeeper<D> {
             faulted: false,
             gets: 0,
         }
+    }
+
+    /// The disk.
+    pub fn disk(&self) -> &D
+        ensures { result.now ≡ disk_of self.now }
+    {
+        &self.disk
     }
 
     /// What is known of the areas. Where nothing is known, both are synced and looked at.
@@ -106,6 +115,8 @@ impl<D: Disk + Drop> Keeper for SlotKeeper<D> {
 
     ghost faults = { λ k. D.faults k.disk };
 
+    ghost sound = { λ k. false };
+
     ghost held = { λ k. told_value (D.tells k.disk) k.faulted (D.view k.disk).seen };
 
     ghost gets = { λ k. k.gets };
@@ -115,7 +126,9 @@ impl<D: Disk + Drop> Keeper for SlotKeeper<D> {
     /// Keeps these bytes from now on.
     fn put(&mut self, bytes: Vec<u8>) -> Result<(), Failed>
         // A crash at any moment of the call leaves what was to be given before it, or these bytes.
-        ensures moments { (values : List (Option (List ℕ))) → IsTrue (D.tells self.new.disk) → GivesOnly (D.view self.old.disk) values → LeavesOnly (D.view self.old.disk) (D.view self.new.disk) (λ image. IsOneOf (value image) (values ++ Some bytes.items ∷ [])) }
+        ensures moments { IsTrue (D.tells self.new.disk) → CrashInPut bytes.items (D.view self.old.disk) (D.view self.new.disk) }
+        // Where no slot is whole the put goes to slot 0.
+        ensures first { OnOk result (IsTrue (D.tells self.old.disk) → value (D.view self.old.disk).seen ≡ None → (D.view self.new.disk).seen 1 ≡ (D.view self.old.disk).seen 1) }
         // After Ok each crash leaves these bytes.
         ensures acknowledged { OnOk result (IsTrue (D.tells self.old.disk) → GivesOnly (D.view self.new.disk) (Some bytes.items ∷ [])) }
         ensures held { OnOk result (⟦<SlotKeeper<D> as Keeper>⟧.held self.new ≡ replaced (⟦<SlotKeeper<D> as Keeper>⟧.held self.old) (Some bytes.items)) }
@@ -142,9 +155,11 @@ impl<D: Disk + Drop> Keeper for SlotKeeper<D> {
     /// The bytes that are kept, or None where nothing is.
     fn get(&mut self, alloc: Global) -> Result<Option<Vec<u8>>, StoreFault>
         // A crash at any moment of the call leaves what was to be given before it.
-        ensures moments { (values : List (Option (List ℕ))) → IsTrue (D.tells self.new.disk) → GivesOnly (D.view self.old.disk) values → LeavesOnly (D.view self.old.disk) (D.view self.new.disk) (λ image. IsOneOf (value image) values) }
+        ensures moments { IsTrue (D.tells self.new.disk) → CrashInGet (D.view self.old.disk) (D.view self.new.disk) }
         // What is given is what a crash might have left, after a fault too.
-        ensures gives { IfOk result (λ given. (values : List (Option (List ℕ))) → IsTrue (D.tells self.old.disk) → GivesOnly (D.view self.old.disk) values → IsOneOf (option_map (λ bytes. bytes.items) given) values) }
+        ensures gives { IfOk result (λ given. IsTrue (D.tells self.old.disk) → Gives (option_map (λ bytes. bytes.items) given) (D.view self.old.disk)) }
+        // From then on a crash gives this too.
+        ensures leaves { IfOk result (λ given. IsTrue (D.tells self.old.disk) → GivesOnly (D.view self.new.disk) (option_map (λ bytes. bytes.items) given ∷ [])) }
         ensures given { IfOk result (λ given. IfSome (⟦<SlotKeeper<D> as Keeper>⟧.held self.old) (λ kept. kept ≡ option_map (λ bytes. bytes.items) given)) }
         ensures held { MatchResult result (λ _. ⟦<SlotKeeper<D> as Keeper>⟧.held self.new ≡ ⟦<SlotKeeper<D> as Keeper>⟧.held self.old) (λ fault. GetLeaves fault (⟦<SlotKeeper<D> as Keeper>⟧.held self.old) (⟦<SlotKeeper<D> as Keeper>⟧.held self.new)) }
         ensures faults { MatchResult result (λ _. ⟦<SlotKeeper<D> as Keeper>⟧.faults self.new ≡ ⟦<SlotKeeper<D> as Keeper>⟧.faults self.old) (λ fault. StoreCounts fault (⟦<SlotKeeper<D> as Keeper>⟧.faults self.old) (⟦<SlotKeeper<D> as Keeper>⟧.faults self.new)) }

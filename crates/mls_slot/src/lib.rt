@@ -2,11 +2,12 @@
 #![tactic(auto)]
 
 pub mod disk;
+mod disk_calls;
 pub mod files;
 mod heads;
 pub mod keeper;
+pub mod laws;
 pub mod memory;
-mod steps;
 #[cfg(test)]
 mod tests;
 

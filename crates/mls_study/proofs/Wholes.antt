@@ -4,6 +4,7 @@ use Rattle.std.proofs.lemmas.Bool.{and_parts, cases_Bool, lt-ltb, le-ltb, leb-tr
 use Rattle.std.proofs.lemmas.List.Folds.{list_any-append}
 use Rattle.std.proofs.lemmas.Slice.Eq.{bytes_eq-Decides}
 use Rattle.std.specs.List.{list_any, list_all, AllByRecursion}
+use Rattle.mls_base.proofs.Ranges.{sizes_in_ranges}
 use Rattle.mls_base.specs.Shapes.{padded, sizes_of, AreNumbers}
 use Rattle.mls_base.specs.declared.numbers.Numbers.{Numbers}
 use Rattle.mls_model.specs.Numbers.{same_bytes}
@@ -71,35 +72,11 @@ too_many_marks c o l ps fields is few many =
 pub sizes_are : (c : Counts) (o : Choices) (l : Launch) (parameters fields : ℕ) → AreCounts c → AreChoices o → AreLaunch l → 1 ≤ parameters → parameters ≤ 16
     → fields ≡ field_count o → 1 ≤ fields → fields ≤ 4 → c.cells * (c.steps * fields) ≤ 1048576 → c.groups * (c.steps * fields) * c.ranks ≤ 1073741824
     → AreSizes (sizes_with c o l parameters)
-sizes_are c o l parameters fields counts choices launch some few is some_fields few_fields mesh marks = record {
-  some_cells = counts.some_cells;
-  cells = counts.cells;
-  some_steps = counts.some_steps;
-  steps = counts.steps;
-  some_groups = counts.some_groups;
-  groups = counts.groups;
-  some_parameters = some;
-  parameters = few;
-  some_ranks = counts.some_ranks;
-  ranks = omega (arith, counts.ranks);
-  ranks_have_cells = omega (arith, counts.ranks);
-  some_clients = counts.some_clients;
-  clients = omega (arith, counts.clients);
-  clients_have_cells = omega (arith, counts.clients);
-  some_slots = launch.some_slots;
-  slots = launch.slots;
-  some_silence = launch.some_silence;
-  silence = launch.silence;
-  some_lives = launch.some_lives;
-  lives = launch.lives;
-  thresholds = choices.few;
-  thresholds_rise = choices.rising;
-  thresholds_fit = choices.fit;
-  some_fields = subst (λ (f : ℕ). 1 ≤ f) is some_fields;
-  fields = subst (λ (f : ℕ). f ≤ 4) is few_fields;
-  mesh = omega (arith, ap (λ f. c.cells * (c.steps * f)) is);
-  marks = omega (arith, ap (λ f. c.groups * (c.steps * f) * c.ranks) is);
-}
+sizes_are c o l parameters fields counts choices launch some few is some_fields few_fields mesh marks =
+    sizes_in_ranges (sizes_with c o l parameters) counts launch
+    (record { some_parameters = some; parameters = few; some_fields = subst (λ (f : ℕ). 1 ≤ f) is some_fields; fields = subst (λ (f : ℕ). f ≤ 4) is few_fields })
+    choices.thresholds
+    (record { mesh = omega (arith, ap (λ f. c.cells * (c.steps * f)) is); marks = omega (arith, ap (λ f. c.groups * (c.steps * f) * c.ranks) is) })
 
 named_is : (o : Option (List (List ℕ))) → IfSome o (λ names. IsTrue (are_field_names names)) → IfSome o (λ names. (length names ≡ unwrap_or (option_map length o) 1) × IsTrue (list_all is_name names) × IsTrue (are_distinct names))
 named_is None h = h

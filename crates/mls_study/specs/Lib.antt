@@ -2,6 +2,7 @@ pub mod Faults
 pub mod Values
 pub mod Choices
 pub mod Names
+pub mod UnknownKeys
 pub mod StudyFile
 pub mod Parameters
 pub mod Ranges

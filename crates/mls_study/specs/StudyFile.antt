@@ -16,8 +16,9 @@ use Rattle.mls_study.specs.declared.keys.Counts.{Counts}
 use Rattle.mls_study.specs.declared.keys.Launch.{Launch}
 use Rattle.mls_study.specs.Choices.{Choices, field_count}
 use Rattle.mls_study.specs.Faults.{◌>>=◌}
-use Rattle.mls_study.specs.Names.{duplicate_from, unknown_key, unknown_in}
-use Rattle.mls_study.specs.declared.level.Level.TheVariants as Level
+use Rattle.mls_study.specs.Names.{duplicate_from}
+use Rattle.mls_study.specs.UnknownKeys.{least_unknown, first_unknown}
+use Rattle.mls_study.specs.declared.unknown_keys.TableKind.TheVariants as TableKind
 use Rattle.mls_study.specs.Values.{needed, given_or, integer_in, number_in, strings_from, integers_from}
 
 -- the table that the bytes write
@@ -187,8 +188,8 @@ study_in ms = do
   tables ← needed Parameters tables_in (get_member (codes "parameters") ms)
   parameters ← parameters_from [] tables
   distinct ← refuse Duplicate (duplicate_from [] parameters)
-  known ← refuse Extra (unknown_key Level.Study ms)
-  all_known ← refuse Extra (unknown_in tables)
+  known ← refuse Extra (least_unknown TableKind.Study ms)
+  all_known ← refuse Extra (first_unknown tables)
   whole counts choices launch parameters
 
 -- the study that the bytes spell, or their first fault

@@ -5,11 +5,14 @@ ghost use Rattle.std.specs.List.{list_any, list_all};
 ghost use Rattle.toml.specs.View.{view, table_view};
 ghost use Rattle.mls_model.specs.Numbers.{same_bytes};
 ghost use Rattle.mls_model.specs.Studies.{is_name_byte, is_name, are_distinct, is_same_statistic, each_once, rises};
+ghost use Rattle.mls_base.specs.Ranges.{AreThresholds};
 ghost use Rattle.mls_study.specs.Faults.{Gives};
 ghost use Rattle.mls_study.specs.StudyFile.{seed_in, samples_in, are_field_names, fields_in, statistic_of, statistics_from, are_statistics, statistics_in, is_value, shift, are_thresholds, thresholds_in};
 
 use crate::fault::StudyFault;
 use crate::values::{integer, integers, strings};
+use mls_base::limits::{MOST_FIELDS, MOST_THRESHOLDS};
+use mls_base::shape::is_rising;
 use mls_model::studies::{Key, Statistic};
 use std::alloc::{AllocError, Global};
 use toml::Value;
@@ -130,7 +133,7 @@ fn all_are_names(texts: &[String]) -> bool
 fn are_names(texts: &[String]) -> bool
     ensures { result ≡ are_field_names (map string_bytes texts.now) }
 {
-    1 <= texts.len() && texts.len() <= 4 && all_are_names(texts) && differ(texts)
+    1 <= texts.len() && texts.len() <= MOST_FIELDS as usize && all_are_names(texts) && differ(texts)
 }
 
 /// The names of the key `fields`.
@@ -266,37 +269,23 @@ fn shifted_values(alloc: Global, signed: bool, values: &[i64]) -> Result<Vec<u16
     Ok(shifted)
 }
 
-fn do_rise(numbers: &[u16]) -> bool
-    ensures value { result ≡ rises numbers.now }
-    ensures fit { IsTrue (list_all (λ t. nat_le t 65535) numbers.now) }
-{
-    for i in 1..numbers.len() {
-        if numbers[i] <= numbers[i - 1] {
-            return false;
-        }
-    }
-    true
-}
-
 /// The thresholds of the key `thresholds`, as shifted values.
 #[tactic(auto, unfolding(crate::specs::StudyFile::thresholds_in))]
 pub fn thresholds(alloc: Global, signed: bool, value: &Value) -> Result<Vec<u16>, StudyFault>
     ensures exact { Gives (λ v. v.items) result (thresholds_in signed (view value.now)) }
-    ensures few { IfOk result (λ v. length v.items ≤ 8) }
-    ensures rising { IfOk result (λ v. IsTrue (rises v.items)) }
-    ensures fit { IfOk result (λ v. IsTrue (list_all (λ t. nat_le t 65535) v.items)) }
+    ensures ranged { IfOk result (λ v. AreThresholds v.items) }
 {
     let items = value.as_array().ok_or(StudyFault::Kind {
         key: Key::Thresholds,
     })?;
     let values = integers(alloc, items, Key::Thresholds)?;
-    if 8 < values.len() || !are_in_range(signed, &values) {
+    if values.len() > MOST_THRESHOLDS as usize || !are_in_range(signed, &values) {
         return Err(StudyFault::Range {
             key: Key::Thresholds,
         });
     }
     let shifted = shifted_values(alloc, signed, &values)?;
-    if do_rise(&shifted) {
+    if is_rising(&shifted) {
         Ok(shifted)
     } else {
         Err(StudyFault::Range {

@@ -3,15 +3,14 @@
 
 mod fault;
 mod keys;
-mod level;
 mod parameter;
-mod places;
+mod parameter_places;
 mod read;
 mod study;
 mod tables;
 #[cfg(test)]
 mod tests;
-mod unknown;
+mod unknown_keys;
 mod values;
 
 pub use fault::{Name, StudyFault};

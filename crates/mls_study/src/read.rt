@@ -8,8 +8,9 @@ ghost use Rattle.toml.specs.View.{view, table_view, items_view};
 ghost use Rattle.mls_base.specs.Shapes.{padded};
 ghost use Rattle.mls_model.specs.Studies.{AreSizes, IsStudy, rises};
 ghost use Rattle.mls_study.specs.Choices.{chosen, field_count};
+ghost use Rattle.mls_base.specs.Ranges.{AreThresholds};
 ghost use Rattle.mls_study.specs.Faults.{Gives, IsMemory};
-ghost use Rattle.mls_study.specs.Names.{place_in, duplicate_from, unknown_key, unknown_in};
+ghost use Rattle.mls_study.specs.Names.{place_in, duplicate_from};
 ghost use Rattle.mls_study.specs.Parameters.{all_seen};
 ghost use Rattle.mls_study.specs.Ranges.{AreCounts, AreChoices, AreLaunch};
 ghost use Rattle.mls_study.specs.StudyFile.{document_of, counts_of, seed_in, samples_in, are_field_names, fields_in, are_statistics, statistics_in, all_statistics, thresholds_in, choices_of, launch_of, tables_in, parameters_from, refuse, sizes_with, whole, study_in, study_of};
@@ -19,14 +20,17 @@ ghost use Rattle.mls_study.specs.declared.fault.StudyFault.TheVariants.{Extra};
 
 use crate::fault::{Name, StudyFault};
 use crate::keys::{Choices, Counts, Launch, fields, samples, seed, statistics, thresholds};
-use crate::level::Level;
 use crate::parameter::Parameter;
-use crate::places::places;
+use crate::parameter_places::places;
 use crate::study::Study;
 use crate::tables::{parameters, tables};
-use crate::unknown::{first_unknown, unknown};
+use crate::unknown_keys::{TableKind, first_unknown, least_unknown};
 use crate::values::{member, needed_number, number_or};
 use indexmap::IndexMap;
+use mls_base::limits::{
+    MOST_CELLS, MOST_GROUPS, MOST_LIVES, MOST_MARKS, MOST_SILENCE, MOST_SLOTS, MOST_STEPS,
+    MOST_WORKERS,
+};
 use mls_base::numbers::Numbers;
 use mls_base::shape::Shape;
 use mls_model::studies::{Key, Product, Statistic};
@@ -38,10 +42,7 @@ use toml::{Table, Value};
 fn document(alloc: Global, bytes: &[u8]) -> Result<Table, StudyFault>
     ensures { Gives table_view result (document_of bytes.now) }
 {
-    let text = match std::str::from_utf8(bytes) {
-        Ok(text) => text,
-        Err(_) => return Err(StudyFault::NotToml),
-    };
+    let text = std::str::from_utf8(bytes).map_err(|_| StudyFault::NotToml)?;
     match toml::table_from_str(alloc, text) {
         Ok(table) => Ok(table),
         Err(error) if error.is_memory() => Err(StudyFault::Memory),
@@ -54,11 +55,12 @@ fn counts(table: &Table) -> Result<Counts, StudyFault>
     ensures exact { result ≡ counts_of (table_view table.now) }
     ensures ranged { IfOk result AreCounts }
 {
-    let cells = needed_number(table, "cells", Key::Cells, 1, 1048576)?;
-    let steps = needed_number(table, "steps", Key::Steps, 1, 4096)?;
-    let groups = needed_number(table, "groups", Key::Groups, 1, 65535)?;
-    let ranks = number_or(table, "ranks", Key::Ranks, 1, cells.min(64), 1)?;
-    let clients = number_or(table, "clients", Key::Clients, 1, cells.min(64), 1)?;
+    let cells = needed_number(table, "cells", Key::Cells, 1, MOST_CELLS)?;
+    let steps = needed_number(table, "steps", Key::Steps, 1, MOST_STEPS)?;
+    let groups = needed_number(table, "groups", Key::Groups, 1, MOST_GROUPS)?;
+    let workers = cells.min(MOST_WORKERS);
+    let ranks = number_or(table, "ranks", Key::Ranks, 1, workers, 1)?;
+    let clients = number_or(table, "clients", Key::Clients, 1, workers, 1)?;
     Ok(Counts {
         cells,
         steps,
@@ -122,9 +124,7 @@ fn statistics_or_all(alloc: Global, table: &Table) -> Result<Vec<Statistic>, Stu
 
 fn thresholds_or_none(alloc: Global, signed: bool, table: &Table) -> Result<Vec<u16>, StudyFault>
     ensures exact { Gives (λ v. v.items) result (given_or [] (thresholds_in signed) (get_member (codes "thresholds") (table_view table.now))) }
-    ensures few { IfOk result (λ v. length v.items ≤ 8) }
-    ensures rising { IfOk result (λ v. IsTrue (rises v.items)) }
-    ensures fit { IfOk result (λ v. IsTrue (list_all (λ t. nat_le t 65535) v.items)) }
+    ensures ranged { IfOk result (λ v. AreThresholds v.items) }
 {
     match member(table, "thresholds") {
         Some(value) => thresholds(alloc, signed, value),
@@ -156,9 +156,9 @@ fn launch(table: &Table) -> Result<Launch, StudyFault>
     ensures exact { result ≡ launch_of (table_view table.now) }
     ensures ranged { IfOk result AreLaunch }
 {
-    let slots = number_or(table, "slots", Key::Slots, 1, 65535, 1)?;
-    let silence = number_or(table, "silence", Key::Silence, 1, 86400, 300)?;
-    let lives = number_or(table, "lives", Key::Lives, 1, 255, 3)?;
+    let slots = number_or(table, "slots", Key::Slots, 1, MOST_SLOTS, 1)?;
+    let silence = number_or(table, "silence", Key::Silence, 1, MOST_SILENCE, 300)?;
+    let lives = number_or(table, "lives", Key::Lives, 1, MOST_LIVES, 3)?;
     Ok(Launch {
         slots,
         silence,
@@ -171,12 +171,10 @@ fn parameter_tables(table: &Table) -> Result<&[Value], StudyFault>
     ensures some { IfOk result (λ items. 1 ≤ length items.now) }
     ensures few { IfOk result (λ items. length items.now ≤ 16) }
 {
-    match member(table, "parameters") {
-        Some(value) => tables(value),
-        None => Err(StudyFault::Missing {
-            key: Key::Parameters,
-        }),
-    }
+    let value = member(table, "parameters").ok_or(StudyFault::Missing {
+        key: Key::Parameters,
+    })?;
+    tables(value)
 }
 
 fn refuse_key(alloc: Global, key: Option<&str>) -> Result<(), StudyFault>
@@ -268,12 +266,12 @@ fn study(
     ensures { result ≡ whole counts (chosen choices) launch (all_seen parameters.items) }
 {
     let planes = counts.steps as u64 * field_number(&choices) as u64;
-    if 1048576 < counts.cells as u64 * planes {
+    if counts.cells as u64 * planes > MOST_CELLS as u64 {
         return Err(StudyFault::Product {
             which: Product::CellsSteps,
         });
     }
-    if 1073741824 < counts.groups as u64 * planes * counts.ranks as u64 {
+    if counts.groups as u64 * planes * counts.ranks as u64 > MOST_MARKS {
         return Err(StudyFault::Product {
             which: Product::GroupsStepsRanks,
         });
@@ -300,7 +298,7 @@ fn study_from(alloc: Global, table: &Table) -> Result<Study, StudyFault>
     let tables = parameter_tables(table)?;
     let parameters = parameters(alloc, tables)?;
     let places = places(alloc, &parameters)?;
-    refuse_key(alloc, unknown(Level::Study, table))?;
+    refuse_key(alloc, least_unknown(TableKind::Study, table))?;
     refuse_key(alloc, first_unknown(tables))?;
     study(counts, choices, launch, parameters, places)
 }

@@ -9,6 +9,7 @@ ghost use Rattle.mls_model.specs.Studies.{IsStudy, Parameter as Declared, shows}
 use crate::keys::has_statistic;
 use crate::parameter::Parameter;
 use indexmap::IndexMap;
+use mls_base::samples::unshifted;
 use mls_base::shape::Shape;
 use mls_model::studies::Statistic;
 use std::marker::Model;
@@ -102,12 +103,7 @@ impl Study {
         requires { i < length self.now.sizes.thresholds }
         ensures { result ≡ unshifted self.now.sizes.signed (slice_index self.now.sizes.thresholds i) }
     {
-        let shifted = self.shape.threshold(i) as i32;
-        if self.shape.signed() {
-            shifted - 32768
-        } else {
-            shifted
-        }
+        unshifted(self.shape.signed(), self.shape.threshold(i))
     }
 
     /// Whether the study file has the key `fields`.

@@ -13,6 +13,7 @@ use crate::fault::StudyFault;
 use crate::keys::is_name_text;
 use crate::parameter::Parameter;
 use crate::values::integer;
+use mls_base::limits::MOST_PARAMETERS;
 use mls_model::studies::Key;
 use std::alloc::Global;
 use toml::Value;
@@ -34,7 +35,7 @@ fn are_enough(items: &[Value]) -> bool
     ensures some { IsTrue result → 1 ≤ length items.now }
     ensures few { IsTrue result → length items.now ≤ 16 }
 {
-    1 <= items.len() && items.len() <= 16
+    1 <= items.len() && items.len() <= MOST_PARAMETERS as usize
 }
 
 /// One to sixteen tables.

@@ -56,10 +56,8 @@ pub fn needed_number(
     ensures least { IfOk result (λ n. least ≤ n) }
     ensures most { IfOk result (λ n. n ≤ most) }
 {
-    match member(table, name) {
-        Some(value) => number(value, key, least, most),
-        None => Err(StudyFault::Missing { key }),
-    }
+    let value = member(table, name).ok_or(StudyFault::Missing { key })?;
+    number(value, key, least, most)
 }
 
 /// The number of a key that a table may have.

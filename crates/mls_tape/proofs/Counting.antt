@@ -27,13 +27,13 @@ pub record Goes (before : ℕ) (rest all : List LaneBytes) : Type 0 where
 pub goes_start : (all : List LaneBytes) → Goes 0 all all
 goes_start all = record { ok = λ h. h; err = λ e h. h }
 
-counted_one : (before : ℕ) (p : LaneBytes) (ps : List LaneBytes) → before + length (lane_frames p.bytes) ≤ most_events → with_events before (p ∷ ps) ≡ (with_events (before + length (lane_frames p.bytes)) ps >>= λ others. Ok (lane_of p.rank p.kind p.bytes ∷ others))
+pub counted_one : (before : ℕ) (p : LaneBytes) (ps : List LaneBytes) → before + length (lane_frames p.bytes) ≤ most_events → with_events before (p ∷ ps) ≡ (with_events (before + length (lane_frames p.bytes)) ps >>= λ others. Ok (lane_of p.rank p.kind p.bytes ∷ others))
 unfolding with_events
 counted_one before p ps few =
     let test : ltb most_events (before + length (lane_frames p.bytes)) ≡ false = le-ltb _ _ few in
     rw (test, with_events) refl
 
-counted_over : (before : ℕ) (p : LaneBytes) (ps : List LaneBytes) → most_events < before + length (lane_frames p.bytes) → with_events before (p ∷ ps) ≡ Err (record { at = p.at; why = why.TooManyEvents })
+pub counted_over : (before : ℕ) (p : LaneBytes) (ps : List LaneBytes) → most_events < before + length (lane_frames p.bytes) → with_events before (p ∷ ps) ≡ Err (record { at = p.at; why = why.TooManyEvents })
 unfolding with_events
 counted_over before p ps many =
     let test : ltb most_events (before + length (lane_frames p.bytes)) ≡ true = lt-ltb _ _ many in

@@ -5,9 +5,9 @@ use Rattle.std.proofs.lemmas.Bool.{lt-ltb}
 use Rattle.mls_model.specs.Numbers.{joined}
 use Rattle.mls_model.specs.Frames.{Frame, IsFrame, spelling, Sight, whole, more, bad, sight}
 use Rattle.mls_model.specs.Lanes.{AreLaneEvents, frames_in, lane_frames, lane_rest}
-use Rattle.mls_frame.specs.declared.seeing.FrameView.{FrameView}
-use Rattle.mls_frame.specs.declared.seeing.Seen.{Seen}
-use Rattle.mls_frame.specs.declared.seeing.Seen.TheVariants as seen
+use Rattle.mls_frame.specs.declared.frame_view.FrameView.{FrameView}
+use Rattle.mls_frame.specs.declared.frame_view.Seen.{Seen}
+use Rattle.mls_frame.specs.declared.frame_view.Seen.TheVariants as seen
 use Rattle.mls_frame.specs.Views.{AreBytes, sight_of}
 use Rattle.mls_frame.proofs.Places.{AreBytes-drop}
 use Rattle.mls_tape.specs.Scans.{starts_from}

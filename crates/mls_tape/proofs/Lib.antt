@@ -2,6 +2,8 @@ pub mod Loop
 pub mod LaneLemmas
 pub mod Counting
 pub mod Tables
+pub mod Spellings
+pub mod Readings
 pub mod Entries
 pub mod Plain
 pub mod Complete

@@ -19,44 +19,44 @@ use Rattle.mls_tape.specs.Scans.{starts_from, all_starts, lanes_made, entries_of
 use Rattle.mls_tape.proofs.LaneLemmas.{lane_events}
 
 -- the value of a step that did not fail
-bind_ok : {A B : Type 0} (r : Read A) (f : A → Read B) (y : B) → (r >>= f) ≡ Ok y → (x : A) × (r ≡ Ok x) × (f x ≡ Ok y)
+pub bind_ok : {A B : Type 0} (r : Read A) (f : A → Read B) (y : B) → (r >>= f) ≡ Ok y → (x : A) × (r ≡ Ok x) × (f x ≡ Ok y)
 bind_ok (Ok x) f y e = (x, refl, e)
 bind_ok (Err d) f y e = absurd cc
 
 -- tests that did not fail
-guard_ok : {A : Type 0} (b : Bool) (d : TapeRefusal) (x y : A) → cond b (Err d) (Ok x) ≡ Ok y → x ≡ y
+pub guard_ok : {A : Type 0} (b : Bool) (d : TapeRefusal) (x y : A) → cond b (Err d) (Ok x) ≡ Ok y → x ≡ y
 guard_ok true d x y e = absurd cc
 guard_ok false d x y e = cc
 
-test_ok : {A : Type 0} (b : Bool) (d : TapeRefusal) (x y : A) → cond b (Ok x) (Err d) ≡ Ok y → x ≡ y
+pub test_ok : {A : Type 0} (b : Bool) (d : TapeRefusal) (x y : A) → cond b (Ok x) (Err d) ≡ Ok y → x ≡ y
 test_ok true d x y e = cc
 test_ok false d x y e = absurd cc
 
-number_left : (w : Width) (at : ℕ) (bytes : List ℕ) (x : ℕ × List ℕ) → number_at w at bytes ≡ Ok x → x.1 ≡ drop (byte_len w) bytes
+pub number_left : (w : Width) (at : ℕ) (bytes : List ℕ) (x : ℕ × List ℕ) → number_at w at bytes ≡ Ok x → x.1 ≡ drop (byte_len w) bytes
 number_left w at bytes x e =
     let both = guard_ok (ltb (length bytes) (byte_len w)) (record { at = at; why = why.Cut }) (from_be_bytes w (take (byte_len w) bytes), drop (byte_len w) bytes) x e in
     ap (λ (p : ℕ × List ℕ). p.1) (sym both)
 
-bytes_left : (n at : ℕ) (bytes : List ℕ) (x : List ℕ × List ℕ) → bytes_at n at bytes ≡ Ok x → bytes ≡ x.0 ++ x.1
+pub bytes_left : (n at : ℕ) (bytes : List ℕ) (x : List ℕ × List ℕ) → bytes_at n at bytes ≡ Ok x → bytes ≡ x.0 ++ x.1
 bytes_left n at bytes x e =
     let both = guard_ok (ltb (length bytes) n) (record { at = at; why = why.Cut }) (take n bytes, drop n bytes) x e in
     sym (take-append-drop n bytes) ∙ ap (λ (p : List ℕ × List ℕ). p.0 ++ p.1) both
 
 -- ---- where a lane's bytes stand
 
-abbrev after_size : ℕ → ℕ × List ℕ → ℕ × List ℕ → ℕ × List ℕ → Read (LaneBytes × List ℕ)
+abbrev pub after_size : ℕ → ℕ × List ℕ → ℕ × List ℕ → ℕ × List ℕ → Read (LaneBytes × List ℕ)
 after_size at known held size = bytes_at size.0 (at + 7) size.1 >>= λ lane. Ok (record { rank = held.0; kind = kind_of known.0; at = at + 7; bytes = lane.0 }, lane.1)
 
-abbrev after_held : ℕ → ℕ × List ℕ → ℕ × List ℕ → Read (LaneBytes × List ℕ)
+abbrev pub after_held : ℕ → ℕ × List ℕ → ℕ × List ℕ → Read (LaneBytes × List ℕ)
 after_held at known held = number_at w32 (at + 3) held.1 >>= after_size at known held
 
-abbrev after_rank : ℕ → ℕ → ℕ × List ℕ → ℕ × List ℕ → Read (LaneBytes × List ℕ)
+abbrev pub after_rank : ℕ → ℕ → ℕ × List ℕ → ℕ × List ℕ → Read (LaneBytes × List ℕ)
 after_rank ranks at known rank = cond (ltb rank.0 ranks) (Ok rank) (refused (at + 1) why.LaneRank) >>= after_held at known
 
-abbrev after_known : ℕ → ℕ → ℕ × List ℕ → Read (LaneBytes × List ℕ)
+abbrev pub after_known : ℕ → ℕ → ℕ × List ℕ → Read (LaneBytes × List ℕ)
 after_known ranks at known = number_at w16 (at + 1) known.1 >>= after_rank ranks at known
 
-abbrev after_kind : ℕ → ℕ → ℕ × List ℕ → Read (LaneBytes × List ℕ)
+abbrev pub after_kind : ℕ → ℕ → ℕ × List ℕ → Read (LaneBytes × List ℕ)
 after_kind ranks at kind = cond (ltb 1 kind.0) (refused at why.LaneKind) (Ok kind) >>= after_known ranks at
 
 -- the bytes stand in a list from a place on
@@ -64,10 +64,10 @@ pub record Stands (tape : List ℕ) (p : LaneBytes) : Type 0 where
   pub more : List ℕ
   pub split : drop p.at tape ≡ p.bytes ++ more
 
-ok_lane : (x y : LaneBytes × List ℕ) → ◌≡◌ {A = Read (LaneBytes × List ℕ)} (Ok x) (Ok y) → x ≡ y
+pub ok_lane : (x y : LaneBytes × List ℕ) → ◌≡◌ {A = Read (LaneBytes × List ℕ)} (Ok x) (Ok y) → x ≡ y
 ok_lane x y e = cc
 
-ok_pair : (p q : LaneBytes) (x y : List ℕ) → ◌≡◌ {A = Read (LaneBytes × List ℕ)} (Ok (p, x)) (Ok (q, y)) → (p ≡ q) × (x ≡ y)
+pub ok_pair : (p q : LaneBytes) (x y : List ℕ) → ◌≡◌ {A = Read (LaneBytes × List ℕ)} (Ok (p, x)) (Ok (q, y)) → (p ≡ q) × (x ≡ y)
 ok_pair p q x y e =
     let same = ok_lane (p, x) (q, y) e in
     (ap (λ (r : LaneBytes × List ℕ). r.0) same, ap (λ (r : LaneBytes × List ℕ). r.1) same)
@@ -78,7 +78,7 @@ held_test ranks at x y true t e =
     subst (λ (z : ℕ × List ℕ). z.0 < ranks) same (ltb-true x.0 ranks t)
 held_test ranks at x y false t e = absurd cc
 
-held_below : (ranks at : ℕ) (x y : ℕ × List ℕ) → cond (ltb x.0 ranks) (Ok x) (refused at why.LaneRank) ≡ Ok y → y.0 < ranks
+pub held_below : (ranks at : ℕ) (x y : ℕ × List ℕ) → cond (ltb x.0 ranks) (Ok x) (refused at why.LaneRank) ≡ Ok y → y.0 < ranks
 held_below ranks at x y e = held_test ranks at x y (ltb x.0 ranks) refl e
 
 -- what was read of one lane
@@ -108,7 +108,7 @@ lane_place ranks at rest p after e =
       rank = subst (λ (q : LaneBytes). q.rank < ranks) made.0 (held_below ranks (at + 1) c.0 d.0 d.1);
     }
 
-ended : (b : Bool) (d : TapeRefusal) (ps : List LaneBytes) → ◌≡◌ {A = Read (List LaneBytes)} (cond b (Ok []) (Err d)) (Ok ps) → [] ≡ ps
+pub ended : (b : Bool) (d : TapeRefusal) (ps : List LaneBytes) → ◌≡◌ {A = Read (List LaneBytes)} (cond b (Ok []) (Err d)) (Ok ps) → [] ≡ ps
 ended true d ps e = cc
 ended false d ps e = absurd cc
 
@@ -117,7 +117,7 @@ pub record IsPart (tape : List ℕ) (ranks : ℕ) (p : LaneBytes) : Type 0 where
   pub stands : Stands tape p
   pub rank : p.rank < ranks
 
-ok_lanes : (ps qs : List LaneBytes) → ◌≡◌ {A = Read (List LaneBytes)} (Ok ps) (Ok qs) → ps ≡ qs
+pub ok_lanes : (ps qs : List LaneBytes) → ◌≡◌ {A = Read (List LaneBytes)} (Ok ps) (Ok qs) → ps ≡ qs
 ok_lanes ps qs e = cc
 
 parts_at : (n ranks at : ℕ) (rest tape : List ℕ) (ps : List LaneBytes) → drop at tape ≡ rest → lanes_at n ranks at rest ≡ Ok ps → AllByRecursion (IsPart tape ranks) ps
@@ -142,10 +142,10 @@ count_at (suc n) ranks at rest ps e =
     let b = bind_ok (lanes_at n ranks (at + (7 + length a.0.0.bytes)) a.0.1) (λ others. Ok (a.0.0 ∷ others)) ps a.2 in
     subst (λ (qs : List LaneBytes). length qs ≡ suc n) (ok_lanes (a.0.0 ∷ b.0) ps b.2) (ap suc (count_at n ranks (at + (7 + length a.0.0.bytes)) a.0.1 b.0 b.1))
 
-ok_numbers : (x y : ℕ × List ℕ) → ◌≡◌ {A = Read (ℕ × List ℕ)} (Ok x) (Ok y) → x ≡ y
+pub ok_numbers : (x y : ℕ × List ℕ) → ◌≡◌ {A = Read (ℕ × List ℕ)} (Ok x) (Ok y) → x ≡ y
 ok_numbers x y e = cc
 
-not_many : (head : ℕ) (x y : ℕ × List ℕ) (b : Bool) → ltb 65535 x.0 ≡ b → cond b (refused head why.TooManyLanes) (Ok x) ≡ Ok y → y.0 ≤ 65535
+pub not_many : (head : ℕ) (x y : ℕ × List ℕ) (b : Bool) → ltb 65535 x.0 ≡ b → cond b (refused head why.TooManyLanes) (Ok x) ≡ Ok y → y.0 ≤ 65535
 not_many head x y true t e = absurd cc
 not_many head x y false t e =
     let same : x ≡ y = ok_numbers x y e in
@@ -153,25 +153,25 @@ not_many head x y false t e =
 
 -- ---- the whole table
 
-abbrev after_some : ℕ → ℕ × List ℕ → ℕ × List ℕ → Read (List LaneBytes)
+abbrev pub after_some : ℕ → ℕ × List ℕ → ℕ × List ℕ → Read (List LaneBytes)
 after_some ranks head some = lanes_at some.0 ranks (head.0 + 4) some.1
 
-abbrev after_count : ℕ → ℕ × List ℕ → ℕ × List ℕ → Read (List LaneBytes)
+abbrev pub after_count : ℕ → ℕ × List ℕ → ℕ × List ℕ → Read (List LaneBytes)
 after_count ranks head count = cond (ltb 65535 count.0) (refused head.0 why.TooManyLanes) (Ok count) >>= after_some ranks head
 
-abbrev after_head : ℕ → ℕ × List ℕ → Read (List LaneBytes)
+abbrev pub after_head : ℕ → ℕ × List ℕ → Read (List LaneBytes)
 after_head ranks head = number_at w32 head.0 head.1 >>= after_count ranks head
 
-abbrev after_version : ℕ → Bool → ℕ × List ℕ → Read (List LaneBytes)
+abbrev pub after_version : ℕ → Bool → ℕ × List ℕ → Read (List LaneBytes)
 after_version ranks signed known = samples_byte signed known.0 known.1 >>= after_head ranks
 
-abbrev after_number : ℕ → Bool → ℕ × List ℕ → Read (List LaneBytes)
+abbrev pub after_number : ℕ → Bool → ℕ × List ℕ → Read (List LaneBytes)
 after_number ranks signed version = cond ((eqb version.0 2) || ((eqb version.0 1) && not signed)) (Ok version) (refused 4 why.Version) >>= after_version ranks signed
 
-abbrev after_magic : ℕ → Bool → List ℕ × List ℕ → Read (List LaneBytes)
+abbrev pub after_magic : ℕ → Bool → List ℕ × List ℕ → Read (List LaneBytes)
 after_magic ranks signed marked = number_at w16 4 marked.1 >>= after_number ranks signed
 
-abbrev after_mark : ℕ → Bool → List ℕ × List ℕ → Read (List LaneBytes)
+abbrev pub after_mark : ℕ → Bool → List ℕ × List ℕ → Read (List LaneBytes)
 after_mark ranks signed magic = cond (same_bytes magic.0 (codes "MTAP")) (Ok magic) (refused 0 why.Magic) >>= after_magic ranks signed
 
 -- the samples byte stands after the version
@@ -189,7 +189,7 @@ samples_left : (signed : Bool) (version : ℕ) (tape bytes : List ℕ) (x : ℕ 
 unfolding samples_byte
 samples_left signed version tape bytes x is e = samples_test signed (eqb version 1) tape bytes x is e
 
-bytes_drop : (n at : ℕ) (bytes : List ℕ) (x : List ℕ × List ℕ) → bytes_at n at bytes ≡ Ok x → x.1 ≡ drop n bytes
+pub bytes_drop : (n at : ℕ) (bytes : List ℕ) (x : List ℕ × List ℕ) → bytes_at n at bytes ≡ Ok x → x.1 ≡ drop n bytes
 bytes_drop n at bytes x e = ap (λ (p : List ℕ × List ℕ). p.1) (sym (guard_ok (ltb (length bytes) n) (record { at = at; why = why.Cut }) (take n bytes, drop n bytes) x e))
 
 pub parts_of : (ranks : ℕ) (signed : Bool) (tape : List ℕ) (ps : List LaneBytes) → lane_bytes_of ranks signed tape ≡ Ok ps → AllByRecursion (IsPart tape ranks) ps × (length ps ≤ 65535)
@@ -279,7 +279,7 @@ lanes_made-length (p ∷ ps) = ap suc (lanes_made-length ps)
 
 -- ---- the tape
 
-tape_read : (ranks : ℕ) (signed : Bool) (bytes : List ℕ) (ps : List LaneBytes) → lane_bytes_of ranks signed bytes ≡ Ok ps → tape_of ranks signed bytes ≡ with_events 0 ps
+pub tape_read : (ranks : ℕ) (signed : Bool) (bytes : List ℕ) (ps : List LaneBytes) → lane_bytes_of ranks signed bytes ≡ Ok ps → tape_of ranks signed bytes ≡ with_events 0 ps
 unfolding tape_of
 tape_read ranks signed bytes ps e = ap (λ (r : Read (List LaneBytes)). r >>= with_events 0) e
 

@@ -12,6 +12,9 @@ pub record DecodedEvent (T : Type 0) : Type 0 where
   pub kind : LaneKind
   pub frame : Frame
 
+abbrev pub decoded_event : {T : Type 0} → T → (lane number : ℕ) → LaneKind → Frame → DecodedEvent T
+decoded_event lanes lane number kind frame = record { lanes = lanes; lane = lane; number = number; kind = kind; frame = frame }
+
 -- where a lane's kind and frames are told, the event is of that kind, and the frame of that number
 abbrev pub IsToldEvent : Option (LaneKind × List Frame) → ℕ → LaneKind → Frame → Type 0
 IsToldEvent None number kind frame = Unit {0}

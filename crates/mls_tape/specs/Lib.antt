@@ -2,6 +2,7 @@ pub mod Reading
 pub mod Scans
 pub mod Tapes
 pub mod Events
+pub mod Wires
 pub mod ScheduleLines
 pub mod ScheduleReading
 pub mod ScheduleFaults

@@ -9,6 +9,10 @@ use Rattle.mls_model.specs.Schedules.{event_count, is_lane_of}
 use Rattle.mls_text.specs.Fronts.{number_before}
 use Rattle.mls_tape.specs.ScheduleLines.{lanes_of, orders_of}
 
+-- the most bytes of a schedule's text
+abbrev pub longest_schedule : ℕ
+longest_schedule = 268435456
+
 -- the line at the front: a rank, a space, a lane and a newline
 unfoldable pub line_in : List ℕ → Option ((ℕ × ℕ) × List ℕ)
 line_in bytes = option_and_then (λ (x : ℕ × List ℕ). option_and_then (λ (y : ℕ × List ℕ). Some ((x.0, y.0), y.1)) (number_before 10 x.1)) (number_before 32 bytes)

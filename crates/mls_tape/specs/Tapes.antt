@@ -6,6 +6,10 @@ use Rattle.mls_model.specs.Numbers.{element}
 use Rattle.mls_model.specs.Frames.{Frame}
 use Rattle.mls_model.specs.Lanes.{Lane}
 
+-- the most bytes of a tape
+abbrev pub longest_tape : ℕ
+longest_tape = 1073741824
+
 -- a tape: its bytes, the ranks and the sample kind that it was read for, and its lanes
 pub record TapeView : Type 0 where
   pub bytes : List ℕ

@@ -4,7 +4,7 @@ ghost use Rattle.std.specs.Prelude.{◌≡◌, ℕ, Bool, List, Option};
 ghost use Rattle.mls_model.specs.declared.lanes.LaneKind.{LaneKind};
 ghost use Rattle.mls_model.specs.Frames.{Frame};
 ghost use Rattle.mls_frame.specs.Views.{frame_of};
-ghost use Rattle.mls_tape.specs.Events.{IsToldEvent};
+ghost use Rattle.mls_tape.specs.Events.{decoded_event, IsToldEvent};
 
 use mls_frame::FrameView;
 use mls_model::lanes::LaneKind;
@@ -43,19 +43,19 @@ pub struct Decoded<'a, T: Lanes> {
 
 impl<'a, T: Lanes> Model for Decoded<'a, T> {
     ghost use Rattle.std.specs.Prelude.{ℕ};
-    ghost use Rattle.mls_tape.specs.Events.{DecodedEvent, IsToldEvent};
+    ghost use Rattle.mls_tape.specs.Events.{DecodedEvent, decoded_event, IsToldEvent};
     ghost use Rattle.mls_frame.specs.Views.{frame_of};
 
     ghost Value = { DecodedEvent T };
 
-    ghost view = { λ e. record { lanes = e.lanes; lane = e.lane; number = e.number; kind = e.kind; frame = frame_of e.view } };
+    ghost view = { λ e. decoded_event e.lanes e.lane e.number e.kind (frame_of e.view) };
 
     ghost invariant = { λ e. IsToldEvent (T.told e.lanes e.lane) e.number e.kind (frame_of e.view) };
 }
 
 impl<'a, T: Lanes> Decoded<'a, T> {
     /// The event of a lane with this number, of which the lanes must tell nothing else.
-    pub fn new(
+    pub(crate) fn new(
         lanes: T,
         lane: u32,
         number: u64,
@@ -63,7 +63,7 @@ impl<'a, T: Lanes> Decoded<'a, T> {
         view: FrameView<'a>,
     ) -> Decoded<'a, T>
         requires { IsToldEvent (T.told lanes lane) number kind (frame_of view) }
-        ensures { result ≡ record { lanes = lanes; lane = lane; number = number; kind = kind; frame = frame_of view.entry } }
+        ensures { result ≡ decoded_event lanes lane number kind (frame_of view.entry) }
     {
         Decoded {
             lanes,

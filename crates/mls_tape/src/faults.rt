@@ -1,7 +1,7 @@
 //! Why bytes are no tape, or no schedule of one.
 
 ghost use Rattle.std.specs.Prelude.{◌≡◌};
-ghost use Rattle.mls_tape.specs.declared.faults.TapeFault.TheVariants.{Memory};
+ghost use Rattle.mls_tape.specs.declared.faults.TapeFault.TheVariants.{Bad, Memory};
 
 use mls_base::faults::NoMemory;
 use mls_model::lanes::{SchedWhy, TapeWhy};
@@ -13,6 +13,13 @@ pub enum TapeFault {
     /// The first fault from left to right, with the offset where it stands.
     Bad { at: u64, why: TapeWhy },
     Memory,
+}
+
+/// A fault of the bytes at an offset.
+pub(crate) fn bad(at: u64, why: TapeWhy) -> TapeFault
+    ensures { result ≡ Bad at why }
+{
+    TapeFault::Bad { at, why }
 }
 
 impl From<AllocError> for TapeFault {

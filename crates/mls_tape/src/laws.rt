@@ -1,10 +1,10 @@
 //! What holds of lanes and schedules.
 
-ghost use Rattle.std.specs.Prelude.{◌≡◌, ℕ, ◌^◌, ◌<◌, ◌≤◌, true, List, length, Some, Ok, Err};
+ghost use Rattle.std.specs.Prelude.{◌≡◌, ℕ, Bool, ◌^◌, ◌<◌, ◌≤◌, true, List, length, Some, Ok, Err};
 ghost use Rattle.std.specs.List.{AllByRecursion};
 ghost use Rattle.mls_model.specs.Numbers.{element};
 ghost use Rattle.mls_model.specs.Frames.{Frame};
-ghost use Rattle.mls_model.specs.Lanes.{Lane, AreLaneEvents, lane_frames, lane_rest};
+ghost use Rattle.mls_model.specs.Lanes.{Lane, AreLaneEvents, lane_frames, lane_rest, tape_of, SpellsTape};
 ghost use Rattle.mls_model.specs.Schedules.{is_legal_order, is_legal, is_complete, plain, schedule_text};
 ghost use Rattle.mls_tape.specs.ScheduleLines.{IsScheduleOf, IsRefusedAt};
 ghost use Rattle.mls_tape.specs.ScheduleReading.{LineRefusal, schedule_of};
@@ -21,19 +21,28 @@ pub fn lane_events_are_found()
     ensures { (bytes : List ℕ) → AreBytes bytes → AreLaneEvents bytes (lane_frames bytes) (lane_rest bytes) }
 {}
 
+/// Bytes are read as the lanes of a tape exactly where they spell a tape with these lanes.
+pub fn tapes_are_spelled()
+    ensures spelled { (ranks : ℕ) (signed : Bool) (bytes : List ℕ) (lanes : List Lane) → AreBytes bytes →
+        tape_of ranks signed bytes ≡ Ok lanes → SpellsTape ranks signed bytes lanes }
+    ensures read { (ranks : ℕ) (signed : Bool) (bytes : List ℕ) (lanes : List Lane) →
+        SpellsTape ranks signed bytes lanes → tape_of ranks signed bytes ≡ Ok lanes }
+{}
+
 /// The plain schedule is legal and complete.
 pub fn plain_schedule_is_complete()
-    ensures complete { (ranks : ℕ) (lanes : List Lane) → AllByRecursion (λ (lane : Lane). lane.rank < ranks) lanes →
-        is_complete ranks lanes (plain ranks lanes) ≡ true }
+    ensures complete { (ranks : ℕ) (lanes : List Lane) →
+        AllByRecursion (λ (lane : Lane). lane.rank < ranks) lanes → is_complete ranks lanes (plain ranks lanes) ≡ true }
     ensures legal { (ranks : ℕ) (lanes : List Lane) → is_legal ranks lanes (plain ranks lanes) ≡ true }
 {}
 
 /// A legal schedule has a legal list for each rank.
 pub fn legal_schedules_have_legal_orders()
     ensures orders { (ranks : ℕ) (lanes : List Lane) (orders : List (List ℕ)) (rank : ℕ) (order : List ℕ) →
-        is_legal ranks lanes orders ≡ true → element orders rank ≡ Some order → is_legal_order lanes rank order ≡ true }
-    ensures count { (ranks : ℕ) (lanes : List Lane) (orders : List (List ℕ)) → is_legal ranks lanes orders ≡ true →
-        length orders ≡ ranks }
+        is_legal ranks lanes orders ≡ true →
+        element orders rank ≡ Some order → is_legal_order lanes rank order ≡ true }
+    ensures count { (ranks : ℕ) (lanes : List Lane) (orders : List (List ℕ)) →
+        is_legal ranks lanes orders ≡ true → length orders ≡ ranks }
 {}
 
 /// The text of a legal schedule is read as that schedule.

@@ -4,9 +4,9 @@ ghost use Rattle.std.specs.Prelude.{◌≡◌, ◌≤◌, ◌<◌, ◌++◌, ◌
 ghost use Rattle.std.specs.List.{flat_map};
 ghost use Rattle.mls_model.specs.Schedules.{schedule_line};
 ghost use Rattle.mls_tape.specs.ScheduleLines.{IsScheduleOf};
-ghost use Rattle.mls_tape.specs.ScheduleFaults.{IsRefused, IsExact};
+ghost use Rattle.mls_tape.specs.ScheduleFaults.{IsRefused, ReadsLists};
 ghost use Rattle.mls_text.specs.Fronts.{seen};
-ghost use Rattle.mls_tape.specs.ScheduleReading.{line_in, line_refusal, schedule_of};
+ghost use Rattle.mls_tape.specs.ScheduleReading.{longest_schedule, line_in, line_refusal, schedule_of};
 ghost use Rattle.mls_tape.specs.Passed.{StandsFor, lists_seen};
 
 use crate::faults::SchedFault;
@@ -58,7 +58,8 @@ impl Passed {
     /// Why a line is refused behind those that passed.
     fn refusal(&self, tape: &Tape, rank: u32, lane: u32) -> Option<SchedWhy>
         requires { length self.now.counts.items ≡ length tape.now.lanes }
-        ensures exact { (lines : List (ℕ × ℕ)) → StandsFor tape.now.ranks (length tape.now.lanes) self.now lines →
+        ensures exact { (lines : List (ℕ × ℕ)) →
+            StandsFor tape.now.ranks (length tape.now.lanes) self.now lines →
             result ≡ line_refusal tape.now.ranks tape.now.lanes lines (rank, lane) }
         ensures room { IfNone result (get_or self.now.counts.items lane 0 < 4294967295) }
     {
@@ -94,10 +95,12 @@ pub(crate) fn read_lists(
     bytes: &[u8],
     tape: &Tape,
 ) -> Result<Vec<Vec<u32>>, SchedFault>
-    requires { length bytes.now ≤ 268435456 }
-    ensures read { IfOk result (λ lists. IsScheduleOf tape.now.ranks tape.now.lanes bytes.now (lists_seen lists.items)) }
+    requires { length bytes.now ≤ longest_schedule }
+    ensures read { IfOk result (λ lists.
+        IsScheduleOf tape.now.ranks tape.now.lanes bytes.now (lists_seen lists.items)) }
     ensures refused { IfErr result (λ fault. IsRefused fault tape.now.ranks tape.now.lanes bytes.now) }
-    ensures exact { MatchResult result (λ lists. schedule_of tape.now.ranks tape.now.lanes bytes.now ≡ Ok (lists_seen lists.items)) (λ fault. IsExact fault (schedule_of tape.now.ranks tape.now.lanes bytes.now)) }
+    ensures exact { ReadsLists (λ lists. lists_seen lists.items) result
+        (schedule_of tape.now.ranks tape.now.lanes bytes.now) }
 {
     let mut passed = Passed::none(alloc, tape)?;
     let mut line = 1u32;

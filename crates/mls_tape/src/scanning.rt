@@ -7,7 +7,7 @@ ghost use Rattle.mls_model.specs.Lanes.{lane_frames, lane_rest, end_at, with_eve
 ghost use Rattle.mls_tape.specs.Reading.{Fails, lane_bytes, all_lane_bytes};
 ghost use Rattle.mls_tape.specs.Scans.{starts_from, all_starts, lanes_made, entries_of};
 
-use crate::faults::TapeFault;
+use crate::faults::{TapeFault, bad};
 use crate::lane_stretch::LaneStretch;
 use mls_base::faults::NoMemory;
 use mls_frame::{FrameFault, Seen, view};
@@ -15,7 +15,7 @@ use mls_model::lanes::{LaneEnd, LaneKind, TapeWhy};
 use std::alloc::Global;
 
 /// The most events of a tape.
-pub const MOST_EVENTS: u64 = 16_777_216;
+const MOST_EVENTS: u64 = 16_777_216;
 
 /// What a tape keeps of a lane.
 #[derive(Clone, Copy, Debug)]
@@ -79,10 +79,7 @@ fn add_starts(starts: &mut Vec<u32>, start: u64, lane: &[u8]) -> Result<(), NoMe
     let mut rest = lane;
     let mut at = start;
     while let Seen::Whole { used, .. } = view(rest) {
-        match starts.push(at as u32) {
-            Ok(()) => {}
-            Err(_) => return Err(NoMemory),
-        }
+        starts.push(at as u32)?;
         at += used as u64;
         rest = rest.split_at(used as usize).1;
     }
@@ -102,10 +99,7 @@ pub fn entries_of(alloc: Global, parts: &[LaneStretch<'_>]) -> Result<(Vec<Entry
         let found = scan(part.bytes);
         let sum = before as u64 + found.events as u64;
         if sum > MOST_EVENTS {
-            return Err(TapeFault::Bad {
-                at: part.at,
-                why: TapeWhy::TooManyEvents,
-            });
+            return Err(bad(part.at, TapeWhy::TooManyEvents));
         }
         entries.push(Entry {
             rank: part.rank,
@@ -120,13 +114,14 @@ pub fn entries_of(alloc: Global, parts: &[LaneStretch<'_>]) -> Result<(Vec<Entry
 }
 
 /// The place of each event, lane after lane. All memory is taken at once.
-pub fn starts_of(alloc: Global, events: u32, parts: &[LaneStretch<'_>]) -> Result<Vec<u32>, NoMemory>
+pub fn starts_of(
+    alloc: Global,
+    events: u32,
+    parts: &[LaneStretch<'_>],
+) -> Result<Vec<u32>, NoMemory>
     ensures { IfOk result (λ v. v.items ≡ all_starts (all_lane_bytes parts.now)) }
 {
-    let mut starts = match Vec::with_capacity(alloc, events as usize) {
-        Ok(starts) => starts,
-        Err(_) => return Err(NoMemory),
-    };
+    let mut starts = Vec::with_capacity(alloc, events as usize)?;
     for part in parts {
         add_starts(&mut starts, part.at, part.bytes)?;
     }

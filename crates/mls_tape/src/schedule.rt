@@ -4,8 +4,8 @@ ghost use Rattle.std.specs.Prelude.{◌≡◌, ℕ, ◌<◌, ◌≤◌, ◌++◌
 ghost use Rattle.mls_model.specs.Numbers.{element};
 ghost use Rattle.mls_model.specs.Schedules.{is_legal, plain, plain_order, schedule_text};
 ghost use Rattle.mls_tape.specs.ScheduleLines.{IsScheduleOf};
-ghost use Rattle.mls_tape.specs.ScheduleFaults.{IsRefused, IsExact};
-ghost use Rattle.mls_tape.specs.ScheduleReading.{schedule_of};
+ghost use Rattle.mls_tape.specs.ScheduleFaults.{IsRefused, ReadsLists};
+ghost use Rattle.mls_tape.specs.ScheduleReading.{longest_schedule, schedule_of};
 
 use crate::faults::SchedFault;
 use crate::lines::{add_order, read_lists};
@@ -13,6 +13,9 @@ use crate::tape::Tape;
 use mls_base::faults::NoMemory;
 use std::alloc::Global;
 use std::marker::Model;
+
+/// The most bytes of a schedule's text.
+pub const LONGEST_SCHEDULE: u64 = 268_435_456;
 
 /// A schedule: a list of lanes for each rank. The i-th time (from 0) that a lane stands is its event i.
 #[derive(Drop)]
@@ -34,10 +37,7 @@ fn add_lane(order: &mut Vec<u32>, lane: u32, count: u32) -> Result<(), NoMemory>
     ensures { OnOk result (order.new.items ≡ order.old.items ++ replicate count lane) }
 {
     for _ in 0..count {
-        match order.push(lane) {
-            Ok(()) => {}
-            Err(_) => return Err(NoMemory),
-        }
+        order.push(lane)?;
     }
     Ok(())
 }
@@ -63,13 +63,6 @@ impl Schedule {
         Schedule { lists }
     }
 
-    /// The number of ranks that the schedule has a list for.
-    pub fn ranks(&self) -> usize
-        ensures { result ≡ length self.now }
-    {
-        self.lists.len()
-    }
-
     /// The rank's lanes in the order in which it takes their events.
     pub fn order(&self, rank: u32) -> &[u32]
         requires { rank < length self.now }
@@ -84,23 +77,20 @@ impl Schedule {
     {
         let mut lists = Vec::new(alloc);
         for rank in 0..tape.ranks() {
-            match lists.push(plain_order(alloc, tape, rank)?) {
-                Ok(()) => {}
-                Err(_) => return Err(NoMemory),
-            }
+            lists.push(plain_order(alloc, tape, rank)?)?;
         }
         Ok(Schedule { lists })
     }
 
     /// The schedule of the tape that the bytes are: lines `RANK LANE`. `Bad` has the first line that is refused,
     /// numbered from 1, and why: it is no line, there is no such rank, no such lane of the rank, or the lane stands
-    /// oftener than it has events. Of at most 268,435,456 bytes.
+    /// oftener than it has events. Of at most `LONGEST_SCHEDULE` bytes.
     pub fn read(alloc: Global, bytes: &[u8], tape: &Tape) -> Result<Schedule, SchedFault>
-        requires { length bytes.now ≤ 268435456 }
+        requires { length bytes.now ≤ longest_schedule }
         ensures read { IfOk result (λ s. IsScheduleOf tape.now.ranks tape.now.lanes bytes.now s) }
         ensures legal { IfOk result (λ s. is_legal tape.now.ranks tape.now.lanes s ≡ true) }
         ensures refused { IfErr result (λ fault. IsRefused fault tape.now.ranks tape.now.lanes bytes.now) }
-        ensures exact { MatchResult result (λ s. schedule_of tape.now.ranks tape.now.lanes bytes.now ≡ Ok s) (λ fault. IsExact fault (schedule_of tape.now.ranks tape.now.lanes bytes.now)) }
+        ensures exact { ReadsLists (λ s. s) result (schedule_of tape.now.ranks tape.now.lanes bytes.now) }
     {
         let lists = read_lists(alloc, bytes, tape)?;
         Ok(Schedule { lists })

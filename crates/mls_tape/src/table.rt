@@ -4,22 +4,23 @@ ghost use Rattle.std.specs.Prelude.{◌≡◌, ℕ, ◌+◌, ◌≤◌, ◌<◌,
 ghost use Rattle.std.specs.Int.{w8, w16, w32};
 ghost use Rattle.mls_model.specs.Numbers.{same_bytes};
 ghost use Rattle.mls_model.specs.Lanes.{bytes_at, number_at, lane_at, lanes_at, samples_byte, lane_bytes_of, kind_of};
+ghost use Rattle.mls_tape.specs.Tapes.{longest_tape};
 ghost use Rattle.mls_tape.specs.Reading.{Gives, lane_bytes, all_lane_bytes};
 
-use crate::faults::TapeFault;
+use crate::faults::{TapeFault, bad};
 use crate::lane_stretch::LaneStretch;
 use mls_model::lanes::{LaneKind, TapeWhy};
 use std::alloc::Global;
+
+/// The most lanes of a tape.
+const MOST_LANES: u32 = 65_535;
 
 fn u8_at(at: u64, bytes: &[u8]) -> Result<(u8, &[u8]), TapeFault>
     ensures exact { Gives (λ x. (x.0, x.1.now)) result (number_at w8 at bytes.now) }
     ensures left { IfOk result (λ x. length x.1.now + 1 ≡ length bytes.now) }
 {
     if bytes.is_empty() {
-        return Err(TapeFault::Bad {
-            at,
-            why: TapeWhy::Cut,
-        });
+        return Err(bad(at, TapeWhy::Cut));
     }
     let (front, rest) = bytes.split_at(1);
     Ok((front[0], rest))
@@ -30,10 +31,7 @@ fn u16_at(at: u64, bytes: &[u8]) -> Result<(u16, &[u8]), TapeFault>
     ensures left { IfOk result (λ x. length x.1.now + 2 ≡ length bytes.now) }
 {
     if bytes.len() < 2 {
-        return Err(TapeFault::Bad {
-            at,
-            why: TapeWhy::Cut,
-        });
+        return Err(bad(at, TapeWhy::Cut));
     }
     let (front, rest) = bytes.split_at(2);
     let number = u16::from_be_bytes([front[0], front[1]]);
@@ -45,10 +43,7 @@ fn u32_at(at: u64, bytes: &[u8]) -> Result<(u32, &[u8]), TapeFault>
     ensures left { IfOk result (λ x. length x.1.now + 4 ≡ length bytes.now) }
 {
     if bytes.len() < 4 {
-        return Err(TapeFault::Bad {
-            at,
-            why: TapeWhy::Cut,
-        });
+        return Err(bad(at, TapeWhy::Cut));
     }
     let (front, rest) = bytes.split_at(4);
     let number = u32::from_be_bytes([front[0], front[1], front[2], front[3]]);
@@ -61,10 +56,7 @@ fn bytes_at(count: usize, at: u64, bytes: &[u8]) -> Result<(&[u8], &[u8]), TapeF
     ensures left { IfOk result (λ x. length x.1.now + count ≡ length bytes.now) }
 {
     if bytes.len() < count {
-        return Err(TapeFault::Bad {
-            at,
-            why: TapeWhy::Cut,
-        });
+        return Err(bad(at, TapeWhy::Cut));
     }
     Ok(bytes.split_at(count))
 }
@@ -88,18 +80,12 @@ fn lane_at(ranks: u32, at: u64, bytes: &[u8]) -> Result<(LaneStretch<'_>, &[u8])
 {
     let (kind, rest) = u8_at(at, bytes)?;
     if kind > 1 {
-        return Err(TapeFault::Bad {
-            at,
-            why: TapeWhy::LaneKind,
-        });
+        return Err(bad(at, TapeWhy::LaneKind));
     }
     let (rank, rest) = u16_at(at + 1, rest)?;
     let rank = rank as u32;
     if rank >= ranks {
-        return Err(TapeFault::Bad {
-            at: at + 1,
-            why: TapeWhy::LaneRank,
-        });
+        return Err(bad(at + 1, TapeWhy::LaneRank));
     }
     let (size, rest) = u32_at(at + 3, rest)?;
     let (lane, rest) = bytes_at(size as usize, at + 7, rest)?;
@@ -135,10 +121,7 @@ fn lanes_at(
         rest = after;
     }
     if !rest.is_empty() {
-        return Err(TapeFault::Bad {
-            at,
-            why: TapeWhy::Trailing,
-        });
+        return Err(bad(at, TapeWhy::Trailing));
     }
     Ok(parts)
 }
@@ -167,10 +150,7 @@ fn samples_byte(signed: bool, version: u16, bytes: &[u8]) -> Result<(u64, &[u8])
     }
     let (kind, rest) = u8_at(6, bytes)?;
     if kind != signed as u8 {
-        return Err(TapeFault::Bad {
-            at: 6,
-            why: TapeWhy::Samples,
-        });
+        return Err(bad(6, TapeWhy::Samples));
     }
     Ok((7, rest))
 }
@@ -183,30 +163,21 @@ pub fn lane_bytes_of(
     signed: bool,
     bytes: &[u8],
 ) -> Result<Vec<LaneStretch<'_>>, TapeFault>
-    requires { length bytes.now ≤ 1073741824 }
+    requires { length bytes.now ≤ longest_tape }
     ensures { Gives (λ v. all_lane_bytes v.items) result (lane_bytes_of ranks signed bytes.now) }
 {
     let (magic, rest) = bytes_at(4, 0, bytes)?;
     if !is_magic(magic) {
-        return Err(TapeFault::Bad {
-            at: 0,
-            why: TapeWhy::Magic,
-        });
+        return Err(bad(0, TapeWhy::Magic));
     }
     let (version, rest) = u16_at(4, rest)?;
     if !is_known(version, signed) {
-        return Err(TapeFault::Bad {
-            at: 4,
-            why: TapeWhy::Version,
-        });
+        return Err(bad(4, TapeWhy::Version));
     }
     let (at, rest) = samples_byte(signed, version, rest)?;
     let (count, rest) = u32_at(at, rest)?;
-    if count > 65_535 {
-        return Err(TapeFault::Bad {
-            at,
-            why: TapeWhy::TooManyLanes,
-        });
+    if count > MOST_LANES {
+        return Err(bad(at, TapeWhy::TooManyLanes));
     }
     lanes_at(alloc, count, ranks, at + 4, rest)
 }

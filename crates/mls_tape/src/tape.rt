@@ -10,12 +10,12 @@ ghost use Rattle.mls_model.specs.Histories.{event_of};
 ghost use Rattle.mls_frame.specs.Views.{frame_of};
 ghost use Rattle.mls_tape.specs.Reading.{Gives, Fails};
 ghost use Rattle.mls_tape.specs.Scans.{TablesFit, IsEntry, IsWholeSight};
-ghost use Rattle.mls_tape.specs.Tapes.{told_lane};
+ghost use Rattle.mls_tape.specs.Tapes.{longest_tape, told_lane};
 
 use crate::decoded::{Decoded, Lanes};
 use crate::faults::TapeFault;
 use crate::scanning::{Entry, entries_of, starts_of};
-use crate::table::lanes_of;
+use crate::table::lane_bytes_of;
 use mls_frame::{FrameView, Seen, view};
 use mls_model::lanes::{LaneEnd, LaneKind, LaneLine};
 use std::alloc::Global;
@@ -28,14 +28,19 @@ fn tables(
     signed: bool,
     bytes: &[u8],
 ) -> Result<(Vec<Entry>, Vec<u32>), TapeFault>
-    requires { length bytes.now ≤ 1073741824 }
-    ensures { MatchResult result (λ x. TablesFit ranks signed bytes.now x.0.items x.1.items) (λ e. Fails e (tape_of ranks signed bytes.now)) }
+    requires { length bytes.now ≤ longest_tape }
+    ensures { MatchResult result
+        (λ x. TablesFit ranks signed bytes.now x.0.items x.1.items)
+        (λ e. Fails e (tape_of ranks signed bytes.now)) }
 {
-    let parts = lanes_of(alloc, ranks, signed, bytes)?;
+    let parts = lane_bytes_of(alloc, ranks, signed, bytes)?;
     let (entries, events) = entries_of(alloc, parts.as_slice())?;
     let starts = starts_of(alloc, events, parts.as_slice())?;
     Ok((entries, starts))
 }
+
+/// The most bytes of a tape.
+pub const LONGEST_TAPE: u64 = 1_073_741_824;
 
 /// A tape, read for a number of ranks and a sample kind. It keeps its bytes, a line per lane, and the start of
 /// each event, four bytes an event.
@@ -50,22 +55,29 @@ pub struct Tape {
 
 impl Model for Tape {
     ghost use Rattle.std.specs.Prelude.{◌≡◌, ℕ, ◌≤◌, length};
-    ghost use Rattle.mls_tape.specs.Tapes.{TapeView};
+    ghost use Rattle.mls_tape.specs.Tapes.{TapeView, longest_tape};
 
     ghost Value = { TapeView };
 
     ghost use Rattle.mls_tape.specs.Scans.{lanes_in, TablesFit};
 
-    ghost view = { λ t. record { bytes = t.bytes.items; ranks = t.ranks; signed = t.signed; lanes = lanes_in t.ranks t.signed t.bytes.items } };
+    ghost view = { λ t. record {
+      bytes = t.bytes.items;
+      ranks = t.ranks;
+      signed = t.signed;
+      lanes = lanes_in t.ranks t.signed t.bytes.items;
+    } };
 
-    ghost invariant = { λ t. TablesFit t.ranks t.signed t.bytes.items t.lanes.items t.starts.items × (length t.bytes.items ≤ 1073741824) };
+    ghost invariant = { λ t. TablesFit t.ranks t.signed t.bytes.items t.lanes.items t.starts.items
+        × (length t.bytes.items ≤ longest_tape) };
 }
 
 impl Tape {
     /// The tape that the bytes are, for so many ranks, its samples read as `i16` where `signed` holds and as
-    /// `u16` else. `Bad` has the first fault from left to right and its offset. Of at most 2^30 bytes.
+    /// `u16` else. `Bad` has the first fault from left to right and its offset. Of at most
+    /// `LONGEST_TAPE` bytes.
     pub fn read(alloc: Global, ranks: u32, signed: bool, bytes: Vec<u8>) -> Result<Tape, TapeFault>
-        requires { vec_len bytes ≤ 1073741824 }
+        requires { vec_len bytes ≤ longest_tape }
         ensures exact { Gives (λ t. t.lanes) result (tape_of ranks signed bytes.items) }
         ensures kept { IfOk result (λ t. (t.bytes ≡ bytes.items) × (t.ranks ≡ ranks) × (t.signed ≡ signed)) }
     {
@@ -82,7 +94,7 @@ impl Tape {
     /// The lanes are those of the bytes.
     pub fn valid(&self)
         ensures exact { tape_of self.now.ranks self.now.signed self.now.bytes ≡ Ok self.now.lanes }
-        ensures size { length self.now.bytes ≤ 1073741824 }
+        ensures size { length self.now.bytes ≤ longest_tape }
         ensures few { length self.now.lanes ≤ 65535 }
         ensures ranks { AllByRecursion (λ (lane : Lane). lane.rank < self.now.ranks) self.now.lanes }
     {
@@ -169,7 +181,8 @@ impl Tape {
     fn start(&self, lane: u32, number: u32) -> u32
         requires { number < event_count self.now.lanes lane }
         ensures within { result ≤ length self.now.bytes }
-        ensures whole { (l : Lane) (f : Frame) → element self.now.lanes lane ≡ Some l → element l.frames number ≡ Some f →
+        ensures whole { (l : Lane) (f : Frame) →
+            element self.now.lanes lane ≡ Some l → element l.frames number ≡ Some f →
             sight (drop result self.now.bytes) ≡ whole f (length (spelling f)) }
     {
         let first = self.lanes[lane as usize].first;
@@ -179,7 +192,8 @@ impl Tape {
     /// Event `number` of the lane, with no copy of its samples and in the same time whatever its number is.
     pub fn event(&self, lane: u32, number: u32) -> Decoded<'_, &Tape>
         requires { number < event_count self.now.lanes lane }
-        ensures event { event_of self.now.lanes lane number ≡ Some (record { kind = result.kind; frame = result.frame }) }
+        ensures event { event_of self.now.lanes lane number
+            ≡ Some (record { kind = result.kind; frame = result.frame }) }
         ensures place { (result.lane ≡ lane) × (result.number ≡ number) }
         ensures lanes { result.lanes.now ≡ self.now }
     {

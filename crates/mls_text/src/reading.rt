@@ -23,29 +23,23 @@ fn digit_count(bytes: &[u8]) -> usize
 
 /// The number below 2^32 whose canonical decimal the digits at the front are, and the bytes behind them.
 #[tactic(auto, unfolding(crate::specs::Fronts::number_in))]
-pub fn number_in(bytes: &[u8]) -> Option<(u32, &[u8])>
+fn number_in(bytes: &[u8]) -> Option<(u32, &[u8])>
     ensures { seen result ≡ number_in bytes.now }
 {
     let (digits, rest) = bytes.split_at(digit_count(bytes));
-    match small_canonical_number(digits) {
-        Some(number) => Some((number, rest)),
-        None => None,
-    }
+    let number = small_canonical_number(digits)?;
+    Some((number, rest))
 }
 
 /// The bytes behind a byte at the front.
 fn behind_byte(bytes: &[u8], byte: u8) -> Option<&[u8]>
     ensures { seen_rest result ≡ behind_byte byte bytes.now }
 {
-    match bytes.split_first() {
-        Some((first, rest)) => {
-            if *first == byte {
-                return Some(rest);
-            }
-            None
-        }
-        None => None,
+    let (first, rest) = bytes.split_first()?;
+    if *first == byte {
+        return Some(rest);
     }
+    None
 }
 
 /// The number at the front that has this byte behind it, and the bytes behind both.

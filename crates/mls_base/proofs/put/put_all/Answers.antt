@@ -1,4 +1,4 @@
-use Rattle.std.proofs.Common.{◌++◌, take, ap, ◌∙◌}
+use Rattle.std.proofs.Common.{◌++◌, take, length, ap, ◌∙◌, arith, length-drop}
 use Rattle.std.proofs.lemmas.List.{take-append-drop}
 use Rattle.mls_base.proofs.Told.{Written-more}
 use Rattle.mls_base.proofs.put.put_all.Goals as goal
@@ -9,5 +9,6 @@ loop-rest-preserved g c =
     let rest = c.loop-rest.rest.now in
     record {
       written = Written-more _ _ _ _ rest (take n rest) _ c.loop-rest.invariant.written (ap (λ xs. take n rest ++ xs) c.split_at.ensures.back ∙ take-append-drop n rest) c.in_ok-n.ensures.written;
+      sure = omega (arith, c.loop-rest.invariant.sure, c.in_ok-n.ensures.sure, c.in_ok-n.ensures.within, ap length c.split_at.ensures.back, length-drop n rest);
       faultless = c.in_ok-n.ensures.faultless ∙ c.loop-rest.invariant.faultless;
     }

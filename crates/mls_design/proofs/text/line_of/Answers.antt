@@ -17,7 +17,7 @@ value-requires-clause-parameter c = omega (arith, parameters_are c.args.study.no
 pub loop-parameter-preserved : goal.loop-parameter-preserved
 loop-parameter-preserved c =
     let fits : to_z w64 (of_z w64 c.value.result) ≡ c.value.result = omega (arith, ints) in
-    lined_more _ _ _ _ c.loop-parameter.parameter c.value.result c.loop-parameter.invariant (c.value.ensures c.args.study.now c.requires.made) (c.add_value.ensures.text ∙ ap (λ v. c.loop-parameter.line.items ++ value_words v) fits) c.add_value.ensures.size
+    lined_more _ _ _ _ c.loop-parameter.parameter c.value.result c.loop-parameter.invariant (c.value.ensures c.args.study.now c.requires.made) (c.add_value.ensures.text ∙ ap (λ v. c.loop-parameter.line ++ value_words v) fits) c.add_value.ensures.size
 
 pub returns : goal.returns
-returns c = c.add.ensures ∙ whole_line c.args.study.now c.args.group c.args.sim c.loop-parameter.parameter c.loop-parameter.line.items c.loop-parameter.invariant (omega (arith, length-values c.args.study.now c.args.group c.args.sim, c.valid.ensures.count, ap (λ (s : Sizes). s.parameters) c.shape.ensures, c.parameters-parameter-end.ensures.value))
+returns c = c.text.ensures.bytes ∙ whole_line c.args.study.now c.args.group c.args.sim c.loop-parameter.parameter c.loop-parameter.line c.loop-parameter.invariant (omega (arith, length-values c.args.study.now c.args.group c.args.sim, c.valid.ensures.count, ap (λ (s : Sizes). s.parameters) c.shape.ensures, c.parameters-parameter-end.ensures.value))

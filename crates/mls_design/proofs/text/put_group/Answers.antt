@@ -7,20 +7,20 @@ use Rattle.mls_text.proofs.Writing.{rose_since, failed_writes}
 use Rattle.mls_text.proofs.Counted.{number_more, number_failed, number_all}
 use Rattle.mls_design.proofs.text.put_group.Goals as goal
 
-pub returns-in_err-put_bytes : goal.returns-in_err-put_bytes
+pub returns-in_err-put : goal.returns-in_err-put
 unfolding group_lines
-returns-in_err-put_bytes g c =
+returns-in_err-put g c =
     let f : ℕ → List ℕ = λ sim. design_line c.args.study.now c.args.group sim in
-    let same = c.as_slice.ensures.value ∙ c.line_of-line.ensures in
-    let failed = number_failed f c.loop-sim.sim c.args.sims _ _ _ _ _ _ c.loop-sim-test.true c.loop-sim.invariant (subst (λ t. WroteFront (g.O.Sink.told c.loop-sim.out) (g.O.Sink.told c.put_bytes.new.out) t) same c.in_err-put_bytes.ensures.0) in
-    let whole = subst (λ n. WroteFront (g.O.Sink.told c.args.out.now) (g.O.Sink.told c.put_bytes.new.out) (flat_map f (below n))) c.requires.sims failed in
-    failed_writes _ _ _ _ _ _ _ c.from_residual.ensures.1 whole (rose_since _ _ _ c.loop-sim.invariant.faultless c.in_err-put_bytes.ensures.1)
+    let same = c.line_of.ensures in
+    let failed = number_failed f c.loop-sim.sim c.args.sims _ _ _ _ _ _ c.loop-sim-test.true c.loop-sim.invariant (subst (λ t. WroteFront (g.O.Sink.told c.loop-sim.out) (g.O.Sink.told c.put.new.out) t) same c.in_err-put.ensures.0) in
+    let whole = subst (λ n. WroteFront (g.O.Sink.told c.args.out.now) (g.O.Sink.told c.put.new.out) (flat_map f (below n))) c.requires.sims failed in
+    failed_writes _ _ _ _ _ _ _ c.from_residual.ensures.1 whole (rose_since _ _ _ c.loop-sim.invariant.faultless c.in_err-put.ensures.1)
 
 pub loop-sim-preserved : goal.loop-sim-preserved
 loop-sim-preserved g c =
     let f : ℕ → List ℕ = λ sim. design_line c.args.study.now c.args.group sim in
-    let same = c.as_slice.ensures.value ∙ c.line_of-line.ensures in
-    number_more f c.loop-sim.sim c.args.sims _ _ _ _ _ _ _ c.loop-sim-test.true c.loop-sim.invariant (c.in_ok-put_bytes.ensures.0 ∙ ap (appended (g.O.Sink.told c.loop-sim.out)) same) c.in_ok-put_bytes.ensures.1
+    let same = c.line_of.ensures in
+    number_more f c.loop-sim.sim c.args.sims _ _ _ _ _ _ _ c.loop-sim-test.true c.loop-sim.invariant (c.in_ok-put.ensures.0 ∙ ap (appended (g.O.Sink.told c.loop-sim.out)) same) c.in_ok-put.ensures.1
 
 pub returns : goal.returns
 unfolding group_lines

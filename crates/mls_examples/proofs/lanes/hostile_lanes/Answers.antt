@@ -39,3 +39,15 @@ returns-clause-empty c = refl
 pub returns-clause-empty_text : goal.returns-clause-empty_text
 unfolding of_texts
 returns-clause-empty_text c = by_tests small_study (client_lane (piece empty_piece ∷ []) ∷ []) (plain 1 (client_lane (piece empty_piece ∷ []) ∷ []))
+
+pub returns-clause-bad_size : goal.returns-clause-bad_size
+unfolding of_bytes
+returns-clause-bad_size c = refl
+
+pub returns-clause-cut_after_one : goal.returns-clause-cut_after_one
+unfolding of_bytes
+returns-clause-cut_after_one c = refl
+
+pub returns-clause-bad_after_one : goal.returns-clause-bad_after_one
+unfolding of_bytes
+returns-clause-bad_after_one c = refl

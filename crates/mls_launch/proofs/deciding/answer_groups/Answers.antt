@@ -1,5 +1,5 @@
 use Rattle.std.proofs.Common.{get_or, refl, sym, ◌∙◌, ap, [], ◌∷◌, ◌++◌}
-use Rattle.mls_launch.specs.declared.rows.GroupState.TheVariants.{Waiting}
+use Rattle.mls_launch.specs.declared.group_state.GroupState.TheVariants.{Waiting}
 use Rattle.mls_launch.proofs.Chosen.{groups_due_none, groups_due_true, groups_due_false, none_due, one_due, same_due}
 use Rattle.mls_launch.proofs.deciding.answer_groups.Goals as goal
 use Rattle.mls_launch.proofs.deciding.answer_groups.Goals.{then-is_due+in_ok-push, else-is_due}

@@ -6,4 +6,4 @@ use Rattle.mls_text.proofs.Writing.{IsFrontOut}
 use Rattle.mls_launch.proofs.writing.put_actions.Given as goal
 
 abbrev pub invariant-loop-timed : goal.invariant-loop-timed
-invariant-loop-timed g l = IsFrontOut (flat_map (λ (t : Timed). action_line t.time t.action) (drop l.timed-index l.lines)) (flat_map (λ (t : Timed). action_line t.time t.action) l.lines) (g.O.Sink.told l.fn.out) (g.O.Sink.told l.out) (g.O.Sink.faults l.fn.out) (g.O.Sink.faults l.out)
+invariant-loop-timed g l = IsFrontOut (flat_map (λ (t : Timed). action_line t.time t.action) (drop l.timed-index l.all)) (flat_map (λ (t : Timed). action_line t.time t.action) l.all) (g.O.Sink.told l.fn.out) (g.O.Sink.told l.out) (g.O.Sink.faults l.fn.out) (g.O.Sink.faults l.out)

@@ -6,6 +6,7 @@ use Rattle.mls_model.specs.Samples.{unshifted}
 use Rattle.mls_field.specs.Stands.{shape_of}
 use Rattle.mls_field.specs.Kept.{sums_at}
 use Rattle.mls_text.specs.Writing.{Writes}
+use Rattle.mls_text.proofs.Writing.{line_writes}
 use Rattle.mls_result.specs.Words.{extrema_words}
 use Rattle.mls_result.proofs.Ends.{ends_of_none, ends_of_some}
 use Rattle.mls_result.proofs.extrema.put_extrema_line.Goals as goal
@@ -22,9 +23,8 @@ returns g c =
     let sums = sums_at c.args.field.now c.args.step c.args.cell in
     let some : 0 < sums.rows = omega (arith, c.rows-rows.ensures.kept c.args.cell) in
     let same : c.signed-signed.result ≡ signed = c.signed-signed.ensures.value ∙ ap (λ (z : Sizes). z.signed) (sym c.requires.shape) in
-    let least = c.value_of-least.ensures ∙ (λ i. unshifted (same i) ((c.least.ensures.value ∙ c.extrema-extrema.ensures.kept.least) i)) in
-    let greatest = c.value_of-greatest.ensures ∙ (λ i. unshifted (same i) ((c.greatest.ensures.value ∙ c.extrema-extrema.ensures.kept.greatest) i)) in
-    let least_back : to_z w32 (of_z w32 c.value_of-least.result) ≡ c.value_of-least.result = omega (arith, ints) in
-    let greatest_back : to_z w32 (of_z w32 c.value_of-greatest.result) ≡ c.value_of-greatest.result = omega (arith, ints) in
-    let P : List ℕ → Type 0 = λ text. Writes c.put_ends.result text (g.O.Sink.told c.args.out.now) (g.O.Sink.told c.put_ends.new.out) (g.O.Sink.faults c.args.out.now) (g.O.Sink.faults c.put_ends.new.out) in
-    subst P (sym (ends_of_some signed sums some ∙ (λ i. extrema_words (sym (least_back ∙ least) i) (sym (greatest_back ∙ greatest) i)))) c.put_ends.ensures
+    let least = c.unshifted-least.ensures ∙ (λ i. unshifted (same i) ((c.least.ensures.value ∙ c.extrema-extrema.ensures.kept.least) i)) in
+    let greatest = c.unshifted-greatest.ensures ∙ (λ i. unshifted (same i) ((c.greatest.ensures.value ∙ c.extrema-extrema.ensures.kept.greatest) i)) in
+    let least_back : to_z w32 (of_z w32 c.unshifted-least.result) ≡ c.unshifted-least.result = omega (arith, ints) in
+    let greatest_back : to_z w32 (of_z w32 c.unshifted-greatest.result) ≡ c.unshifted-greatest.result = omega (arith, ints) in
+    line_writes _ _ _ _ _ _ _ (sym (ends_of_some signed sums some ∙ (λ i. extrema_words (sym (least_back ∙ least) i) (sym (greatest_back ∙ greatest) i)))) (line_writes _ _ _ _ _ _ _ c.extrema_line.ensures c.put.ensures)

@@ -1,64 +1,57 @@
-use Rattle.std.proofs.Common.{arith, ◌≡◌, ◌<◌, ◌≤◌, ◌∙◌, ap, sym, subst, length, Some}
+use Rattle.std.proofs.Common.{arith, ◌≡◌, ◌<◌, ◌≤◌, ◌∙◌, ap, sym, subst, length}
 use Rattle.std.specs.List.{flat_map}
 use Rattle.mls_base.specs.Told.{appended, WroteFront}
 use Rattle.mls_model.specs.Numbers.{below}
-use Rattle.mls_model.specs.Studies.{Sizes, plane_of}
+use Rattle.mls_model.specs.Studies.{Sizes}
 use Rattle.mls_model.specs.Blocks.{block, rank_of}
-use Rattle.mls_model.specs.SumsText.{sums_text}
 use Rattle.mls_model.specs.ResultText.{field_text}
 use Rattle.mls_rank.specs.Cores.{sizes_of, rank_of as core_rank}
-use Rattle.mls_text.proofs.Writing.{rose_since, failed_writes}
-use Rattle.mls_result.specs.Histories.{core_sums, kept_said}
+use Rattle.mls_text.proofs.Writing.{line_out, line_failed, rose_since, failed_writes}
+use Rattle.mls_result.specs.Histories.{kept_said}
 use Rattle.mls_text.proofs.Counted.{number_more, number_failed, number_all}
-use Rattle.mls_result.proofs.States.{kept_at}
+use Rattle.mls_result.proofs.CellWords.{cell_said_of}
 use Rattle.mls_result.proofs.text.put_cells.Goals as goal
 
 pub put_cell-requires-clause-sizes : goal.put_cell-requires-clause-sizes
 put_cell-requires-clause-sizes g c =
-    let in_ranks : c.rank_of_cell-rank.result < length c.args.cores.now = omega (arith, c.requires.cores.count, c.rank_of_cell-rank.ensures.rank_in, ap (λ (z : Sizes). z.ranks) c.shape-shape.ensures) in
-    ap sizes_of c.index-cores-rank.is ∙ c.requires.cores.sizes c.rank_of_cell-rank.result c.index-cores-rank.result in_ranks
+    let in_ranks : c.rank_of-rank.result < length c.args.cores.now = omega (arith, c.requires.cores.count, c.rank_of-rank.ensures.within, ap (λ (z : Sizes). z.ranks) c.shape-shape.ensures) in
+    ap sizes_of c.index-cores-rank.is ∙ c.requires.cores.sizes c.rank_of-rank.result c.index-cores-rank.result in_ranks
 
 pub put_cell-requires-clause-first : goal.put_cell-requires-clause-first
 put_cell-requires-clause-first g c =
-    let rank = c.rank_of_cell-rank.result in
-    let in_ranks : rank < length c.args.cores.now = omega (arith, c.requires.cores.count, c.rank_of_cell-rank.ensures.rank_in, ap (λ (z : Sizes). z.ranks) c.shape-shape.ensures) in
+    let rank = c.rank_of-rank.result in
+    let in_ranks : rank < length c.args.cores.now = omega (arith, c.requires.cores.count, c.rank_of-rank.ensures.within, ap (λ (z : Sizes). z.ranks) c.shape-shape.ensures) in
     let own : core_rank c.index-cores-rank.result ≡ rank = ap core_rank c.index-cores-rank.is ∙ c.requires.cores.ranks rank c.index-cores-rank.result in_ranks in
-    subst (λ r. (block c.args.study.now.sizes r).first ≤ c.loop-cell.cell) (sym own) (subst (λ z. (block z rank).first ≤ c.loop-cell.cell) c.shape-shape.ensures c.rank_of_cell-rank.ensures.first)
+    subst (λ r. (block c.args.study.now.sizes r).first ≤ c.loop-cell.cell) (sym own) (subst (λ z. (block z rank).first ≤ c.loop-cell.cell) c.shape-shape.ensures c.rank_of-rank.ensures.first)
 
 pub put_cell-requires-clause-end : goal.put_cell-requires-clause-end
 put_cell-requires-clause-end g c =
-    let rank = c.rank_of_cell-rank.result in
-    let in_ranks : rank < length c.args.cores.now = omega (arith, c.requires.cores.count, c.rank_of_cell-rank.ensures.rank_in, ap (λ (z : Sizes). z.ranks) c.shape-shape.ensures) in
+    let rank = c.rank_of-rank.result in
+    let in_ranks : rank < length c.args.cores.now = omega (arith, c.requires.cores.count, c.rank_of-rank.ensures.within, ap (λ (z : Sizes). z.ranks) c.shape-shape.ensures) in
     let own : core_rank c.index-cores-rank.result ≡ rank = ap core_rank c.index-cores-rank.is ∙ c.requires.cores.ranks rank c.index-cores-rank.result in_ranks in
-    subst (λ r. c.loop-cell.cell < (block c.args.study.now.sizes r).end) (sym own) (subst (λ z. c.loop-cell.cell < (block z rank).end) c.shape-shape.ensures c.rank_of_cell-rank.ensures.end)
+    subst (λ r. c.loop-cell.cell < (block c.args.study.now.sizes r).end) (sym own) (subst (λ z. c.loop-cell.cell < (block z rank).end) c.shape-shape.ensures c.rank_of-rank.ensures.end)
 
 pub returns-in_err-put_cell : goal.returns-in_err-put_cell
 unfolding field_text
 returns-in_err-put_cell g c =
     let study = c.args.study.now in
-    let rank = c.rank_of_cell-rank.result in
-    let core = c.index-cores-rank.result in
-    let in_ranks : rank < length c.args.cores.now = omega (arith, c.requires.cores.count, c.rank_of_cell-rank.ensures.rank_in, ap (λ (z : Sizes). z.ranks) c.shape-shape.ensures) in
-    let found : rank_of study.sizes c.loop-cell.cell ≡ Some rank = ap (λ z. rank_of z c.loop-cell.cell) (sym c.shape-shape.ensures) ∙ c.rank_of_cell-rank.ensures.value in
-    let plane = plane_of study.sizes c.args.step c.args.field in
-    let same = ap (sums_text study c.args.step c.args.field c.loop-cell.cell) (ap (λ d. core_sums d plane c.loop-cell.cell) c.index-cores-rank.is ∙ sym (kept_at study.sizes c.args.cores.now rank plane c.loop-cell.cell core found in_ranks)) in
+    let in_ranks : c.rank_of-rank.result < length c.args.cores.now = omega (arith, c.requires.cores.count, c.rank_of-rank.ensures.within, ap (λ (z : Sizes). z.ranks) c.shape-shape.ensures) in
+    let found = ap (λ z. rank_of z c.loop-cell.cell) (sym c.shape-shape.ensures) ∙ c.rank_of-rank.ensures.value in
+    let same = cell_said_of study c.args.cores.now c.args.step c.args.field c.loop-cell.cell c.rank_of-rank.result c.index-cores-rank.result found in_ranks c.index-cores-rank.is in
     let said = kept_said study c.args.cores.now c.args.step c.args.field in
     let kept = c.loop-cell.invariant in
-    let failed = number_failed said c.loop-cell.cell c.args.cells _ _ _ _ _ _ c.loop-cell-test.true kept (subst (λ t. WroteFront (g.O.Sink.told c.loop-cell.out) (g.O.Sink.told c.put_cell.new.out) t) same c.in_err-put_cell.ensures.0) in
+    let failed = number_failed said c.loop-cell.cell c.args.cells _ _ _ _ _ _ c.loop-cell-test.true kept (line_failed _ _ _ _ same c.in_err-put_cell.ensures.0) in
     let whole = subst (λ n. WroteFront (g.O.Sink.told c.args.out.now) (g.O.Sink.told c.put_cell.new.out) (flat_map said (below n))) c.requires.cells failed in
     failed_writes _ _ _ _ _ _ _ c.from_residual.ensures.1 whole (rose_since _ _ _ kept.faultless c.in_err-put_cell.ensures.1)
 
 pub loop-cell-preserved : goal.loop-cell-preserved
 loop-cell-preserved g c =
     let study = c.args.study.now in
-    let rank = c.rank_of_cell-rank.result in
-    let core = c.index-cores-rank.result in
-    let in_ranks : rank < length c.args.cores.now = omega (arith, c.requires.cores.count, c.rank_of_cell-rank.ensures.rank_in, ap (λ (z : Sizes). z.ranks) c.shape-shape.ensures) in
-    let found : rank_of study.sizes c.loop-cell.cell ≡ Some rank = ap (λ z. rank_of z c.loop-cell.cell) (sym c.shape-shape.ensures) ∙ c.rank_of_cell-rank.ensures.value in
-    let plane = plane_of study.sizes c.args.step c.args.field in
-    let same = ap (sums_text study c.args.step c.args.field c.loop-cell.cell) (ap (λ d. core_sums d plane c.loop-cell.cell) c.index-cores-rank.is ∙ sym (kept_at study.sizes c.args.cores.now rank plane c.loop-cell.cell core found in_ranks)) in
+    let in_ranks : c.rank_of-rank.result < length c.args.cores.now = omega (arith, c.requires.cores.count, c.rank_of-rank.ensures.within, ap (λ (z : Sizes). z.ranks) c.shape-shape.ensures) in
+    let found = ap (λ z. rank_of z c.loop-cell.cell) (sym c.shape-shape.ensures) ∙ c.rank_of-rank.ensures.value in
+    let same = cell_said_of study c.args.cores.now c.args.step c.args.field c.loop-cell.cell c.rank_of-rank.result c.index-cores-rank.result found in_ranks c.index-cores-rank.is in
     let said = kept_said study c.args.cores.now c.args.step c.args.field in
-    number_more said c.loop-cell.cell c.args.cells _ _ _ _ _ _ _ c.loop-cell-test.true c.loop-cell.invariant (c.in_ok-put_cell.ensures.0 ∙ ap (appended (g.O.Sink.told c.loop-cell.out)) same) c.in_ok-put_cell.ensures.1
+    number_more said c.loop-cell.cell c.args.cells _ _ _ _ _ _ _ c.loop-cell-test.true c.loop-cell.invariant (line_out _ _ _ _ same c.in_ok-put_cell.ensures.0) c.in_ok-put_cell.ensures.1
 
 pub returns : goal.returns
 unfolding field_text

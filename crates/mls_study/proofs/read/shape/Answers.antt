@@ -10,13 +10,13 @@ unwrap-requires c =
     let o : Choices = chosen c.args.choices.now in
     let len : c.len.result ≡ length o.thresholds = omega (arith, c.len.ensures, c.deref.ensures.len, ap length c.deref.ensures.value) in
     let kept : c.eight.result ≡ padded o.thresholds = c.eight.ensures ∙ ap padded c.deref.ensures.value in
-    let same = same_sizes c.args.counts o c.args.launch c.args.parameters c.len.result c.eight.result c.field_number.result (taken o.thresholds c.len.result c.eight.result c.requires.choices.few len kept) c.field_number.ensures.value in
-    c.of.ensures.valid.1 (numbers_are (numbers_with c.args.counts o c.args.launch c.args.parameters c.len.result c.eight.result c.field_number.result) o.thresholds (sizes_with c.args.counts o c.args.launch c.args.parameters) c.requires.choices.few len kept same c.requires.sizes)
+    let same = same_sizes c.args.counts o c.args.launch c.args.parameters c.len.result c.eight.result c.field_number.result (taken o.thresholds c.len.result c.eight.result c.requires.choices.thresholds.few len kept) c.field_number.ensures.value in
+    c.of.ensures.valid.1 (numbers_are (numbers_with c.args.counts o c.args.launch c.args.parameters c.len.result c.eight.result c.field_number.result) o.thresholds (sizes_with c.args.counts o c.args.launch c.args.parameters) c.requires.choices.thresholds.few len kept same c.requires.sizes)
 
 pub returns : goal.returns
 returns c =
     let o : Choices = chosen c.args.choices.now in
     let len : c.len.result ≡ length o.thresholds = omega (arith, c.len.ensures, c.deref.ensures.len, ap length c.deref.ensures.value) in
     let kept : c.eight.result ≡ padded o.thresholds = c.eight.ensures ∙ ap padded c.deref.ensures.value in
-    let same = same_sizes c.args.counts o c.args.launch c.args.parameters c.len.result c.eight.result c.field_number.result (taken o.thresholds c.len.result c.eight.result c.requires.choices.few len kept) c.field_number.ensures.value in
+    let same = same_sizes c.args.counts o c.args.launch c.args.parameters c.len.result c.eight.result c.field_number.result (taken o.thresholds c.len.result c.eight.result c.requires.choices.thresholds.few len kept) c.field_number.ensures.value in
     rw c.unwrap.ensures at c.of.ensures.value ∙ same

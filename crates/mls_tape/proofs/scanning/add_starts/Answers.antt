@@ -13,7 +13,7 @@ loop-used-init c = record { bytes = λ i. omega (arith, c.type_inv.lane i); star
 pub loop-used-preserved : goal.loop-used-preserved
 loop-used-preserved c =
     let s = is_step c.loop-used.rest.now (frame_of c.in-Whole.frame) c.in-Whole.used c.loop-used.invariant.bytes (sym c.in-Whole.ensures.exact) in
-    rw (c.split_at.ensures.back, c.in-Ok.ensures.items) (record {
+    rw (c.split_at.ensures.back, c.in_ok-push.ensures.items) (record {
       bytes = AreBytes-drop c.in-Whole.used c.loop-used.rest.now c.loop-used.invariant.bytes;
       starts = starts_step c.loop-used.starts.items c.loop-used.at c.loop-used.rest.now (frame_of c.in-Whole.frame) c.in-Whole.used s ∙ c.loop-used.invariant.starts;
       within = omega (arith, s.left, c.loop-used.invariant.within);

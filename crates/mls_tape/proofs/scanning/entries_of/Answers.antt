@@ -13,7 +13,7 @@ returns-then-sum-gt-MOST_EVENTS c =
     let rest = all_lane_bytes (drop (c.loop-part.part-index + 1) c.args.parts.now) in
     let step = rest_step c.args.parts.now c.loop-part.part-index c.part-item.result c.loop-part-test.true c.part-item.is in
     let many : most_events < c.loop-part.before + length (lane_frames c.part-item.result.bytes.now) = omega (arith, c.if-sum-gt-MOST_EVENTS.true, c.scan-found.ensures.events) in
-    goes_over c.loop-part.before (lane_bytes c.part-item.result) rest all (subst (λ (ps : List LaneBytes). Goes c.loop-part.before ps all) step c.loop-part.invariant.goes) many
+    rw c.bad.ensures (goes_over c.loop-part.before (lane_bytes c.part-item.result) rest all (subst (λ (ps : List LaneBytes). Goes c.loop-part.before ps all) step c.loop-part.invariant.goes) many)
 
 pub loop-part-preserved : goal.loop-part-preserved
 loop-part-preserved c =

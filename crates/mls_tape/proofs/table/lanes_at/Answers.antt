@@ -23,7 +23,7 @@ loop-preserved c =
 pub returns-then-not-is_empty : goal.returns-then-not-is_empty
 returns-then-not-is_empty c =
     let rest : (length c.loop.rest.now == 0) ≡ false = search rules in
-    is_trailing (all_lane_bytes c.loop.parts.items) c.args.count c.loop.counter c.args.ranks c.loop.at c.loop.rest.now (lanes_at c.args.count c.args.ranks c.args.start c.args.bytes.now) c.loop-test.false rest c.loop.invariant.read
+    rw c.bad.ensures (is_trailing (all_lane_bytes c.loop.parts.items) c.args.count c.loop.counter c.args.ranks c.loop.at c.loop.rest.now (lanes_at c.args.count c.args.ranks c.args.start c.args.bytes.now) c.loop-test.false rest c.loop.invariant.read)
 
 pub returns : goal.returns
 returns c =

@@ -1,5 +1,6 @@
 use Rattle.std.proofs.Common.{◌≡◌, ◌*◌, take}
+use Rattle.mls_frame.specs.Views.{piece_of}
 use Rattle.mls_assembly.proofs.kept_piece.KeptPiece.of.Given as goal
 
 abbrev pub invariant-loop-row : goal.invariant-loop-row
-invariant-loop-row l = l.samples.items ≡ take (l.row * l.piece.count) l.piece.samples
+invariant-loop-row l = l.samples.items ≡ take (l.row * (piece_of l.piece).count) (piece_of l.piece).samples

@@ -8,17 +8,17 @@ overflow_add-cell c =
     let within : r.span.first + c.args.cell < r.shape.cells = cell_in_mesh r.shape r.rank c.args.cell r.span c.valid.ensures r.rank_in r.span_is c.requires.cell_in in
     omega (arith, within, c.valid.ensures.cells)
 
-pub sender-requires : goal.sender-requires
-sender-requires c =
+pub client_of-requires : goal.client_of-requires
+client_of-requires c =
     let r = c.args.self.now in
     cell_in_mesh r.shape r.rank c.args.cell r.span c.valid.ensures r.rank_in r.span_is c.requires.cell_in
 
 pub at-requires-clause-within : goal.at-requires-clause-within
 at-requires-clause-within c =
     let r = c.args.self.now in
-    (sample_in r.shape r.rank c.args.row c.args.cell c.sender.result r.span r.open.now c.in-Some.part.now c.valid.ensures r.rank_in r.span_is c.requires.cell_in c.requires.row_in r.kept c.sender.ensures.found c.in-Some.ensures).within
+    (sample_in r.shape r.rank c.args.row c.args.cell c.client_of.result r.span r.pieces.now c.in-Some.piece.now c.valid.ensures r.rank_in r.span_is c.requires.cell_in c.requires.row_in r.kept c.client_of.ensures.value c.in-Some.ensures).within
 
 pub at-requires-clause-from : goal.at-requires-clause-from
 at-requires-clause-from c =
     let r = c.args.self.now in
-    (sample_in r.shape r.rank c.args.row c.args.cell c.sender.result r.span r.open.now c.in-Some.part.now c.valid.ensures r.rank_in r.span_is c.requires.cell_in c.requires.row_in r.kept c.sender.ensures.found c.in-Some.ensures).from
+    (sample_in r.shape r.rank c.args.row c.args.cell c.client_of.result r.span r.pieces.now c.in-Some.piece.now c.valid.ensures r.rank_in r.span_is c.requires.cell_in c.requires.row_in r.kept c.client_of.ensures.value c.in-Some.ensures).from

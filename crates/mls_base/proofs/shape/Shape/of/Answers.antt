@@ -1,14 +1,25 @@
 use Rattle.std.proofs.Common.{refl}
-use Rattle.mls_base.proofs.Ranges.{AreNumbers-from_parts}
+use Rattle.mls_base.specs.Shapes.{sizes_of}
+use Rattle.mls_base.proofs.Ranges.{sizes_in_ranges}
 use Rattle.mls_base.proofs.shape.Shape.of.Goals as goal
 
 pub invariant_of-result : goal.invariant_of-result
 invariant_of-result c =
-    let are = AreNumbers-from_parts c.args.numbers.now (c.have_sizes.ensures.0 c.if-have_sizes.true) (c.have_workers.ensures.0 c.if-have_workers.true) (c.have_products.ensures.0 c.if-have_products.true) (c.have_thresholds.ensures.0 c.if-have_thresholds.true) in
-    (are.behind, are.few, are.sizes)
+    let n = c.args.numbers.now in
+    let kept = c.have_thresholds.ensures.0 c.if-have_thresholds.true in (
+      kept.behind,
+      kept.few,
+      sizes_in_ranges (sizes_of n) (c.have_counts.ensures.0 c.if-have_counts.true) (c.have_launch.ensures.0 c.if-have_launch.true) (c.have_varied.ensures.0 c.if-have_varied.true) kept.thresholds (c.have_products.ensures.0 c.if-have_products.true),
+    )
 
 pub returns-then-have_thresholds-clause-valid : goal.returns-then-have_thresholds-clause-valid
-returns-then-have_thresholds-clause-valid c = (
-  λ _. AreNumbers-from_parts c.args.numbers.now (c.have_sizes.ensures.0 c.if-have_sizes.true) (c.have_workers.ensures.0 c.if-have_workers.true) (c.have_products.ensures.0 c.if-have_products.true) (c.have_thresholds.ensures.0 c.if-have_thresholds.true),
-  λ _. refl,
-)
+returns-then-have_thresholds-clause-valid c =
+    let n = c.args.numbers.now in
+    let kept = c.have_thresholds.ensures.0 c.if-have_thresholds.true in (
+      λ _. record {
+        few = kept.few;
+        behind = kept.behind;
+        sizes = sizes_in_ranges (sizes_of n) (c.have_counts.ensures.0 c.if-have_counts.true) (c.have_launch.ensures.0 c.if-have_launch.true) (c.have_varied.ensures.0 c.if-have_varied.true) kept.thresholds (c.have_products.ensures.0 c.if-have_products.true);
+      },
+      λ _. refl,
+    )

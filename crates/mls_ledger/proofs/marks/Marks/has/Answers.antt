@@ -1,5 +1,5 @@
 use Rattle.mls_ledger.specs.MarkSets.{MarkSet}
-use Rattle.mls_ledger.proofs.Steps.{seen_mark, none_past_groups, none_past_planes}
+use Rattle.mls_ledger.proofs.AfterCalls.{seen_mark, none_past_groups, none_past_planes}
 use Rattle.mls_ledger.proofs.marks.Marks.has.Goals as goal
 use Rattle.mls_ledger.proofs.marks.Marks.has.Goals.{then-group-self-via-then-group-self, then-group-self-via-else-group-self+then-step-self}
 

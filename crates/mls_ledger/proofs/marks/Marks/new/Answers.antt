@@ -1,4 +1,4 @@
-use Rattle.mls_ledger.proofs.Steps.{zeros_keep, zeros_empty, zeros_none}
+use Rattle.mls_ledger.proofs.AfterCalls.{zeros_keep, zeros_empty, zeros_none}
 use Rattle.mls_ledger.proofs.marks.Marks.new.Goals as goal
 
 pub invariant_of-result : goal.invariant_of-result

@@ -1,5 +1,5 @@
 use Rattle.std.proofs.Common.{rules}
-use Rattle.mls_ledger.proofs.Steps.{cleared_keep, zeros_empty, zeros_none}
+use Rattle.mls_ledger.proofs.AfterCalls.{cleared_keep, zeros_empty, zeros_none}
 use Rattle.mls_ledger.proofs.marks.Marks.reset.Goals as goal
 
 pub invariant_of-self : goal.invariant_of-self

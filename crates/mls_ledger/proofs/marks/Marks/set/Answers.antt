@@ -1,7 +1,7 @@
 use Rattle.std.proofs.Common.{◌≡◌, ◌<◌, ap, arith}
 use Rattle.std.proofs.lemmas.Grind.{common_steps}
 use Rattle.mls_ledger.specs.MarkSets.{MarkSet}
-use Rattle.mls_ledger.proofs.Steps.{IsReady, set_keeps, set_marks, set_counts, set_room, set_fits}
+use Rattle.mls_ledger.proofs.AfterCalls.{IsReady, set_keeps, set_marks, set_counts, set_room, set_fits}
 use Rattle.mls_ledger.proofs.marks.Marks.set.Goals as goal
 
 pub overflow_add-index_mut : goal.overflow_add-index_mut

@@ -1,0 +1,74 @@
+//! What is kept of the pieces of one key.
+
+ghost use Rattle.std.specs.Prelude.{◌≡◌, ◌==◌, ℕ, ◌<◌, length, set, cond, is_some, IfOk, Some, None};
+ghost use Rattle.std.specs.Option.{option_map};
+ghost use Rattle.mls_assembly.specs.KeyShares.{share_in};
+
+use crate::kept_piece::KeptPiece;
+use mls_base::faults::NoMemory;
+use std::alloc::Global;
+use std::marker::Model;
+
+/// The pieces of one key and life, a slot for each client.
+#[derive(Drop)]
+pub(crate) struct KeyPieces {
+    life: u32,
+    pieces: Vec<Option<KeptPiece>>,
+}
+
+impl Model for KeyPieces {
+    ghost use Rattle.mls_assembly.specs.KeyShares.{KeyShares};
+
+    ghost Value = { KeyShares };
+
+    ghost view = { λ o. record { life = o.life; shares = o.pieces.items } };
+}
+
+impl KeyPieces {
+    /// A life with the piece of one of so many clients.
+    pub(crate) fn of(
+        alloc: Global,
+        clients: u32,
+        life: u32,
+        client: u32,
+        piece: KeptPiece,
+    ) -> Result<KeyPieces, NoMemory>
+        requires { client < clients }
+        ensures life { IfOk result (λ o. o.life ≡ life) }
+        ensures slots { IfOk result (λ o. length o.shares ≡ clients) }
+        ensures shares { IfOk result (λ o. (c : ℕ) → share_in o c ≡ cond (c == client) (Some piece) None) }
+    {
+        let mut pieces = Vec::with_capacity(alloc, clients as usize)?;
+        for _client in 0..clients {
+            pieces.push(None)?;
+        }
+        pieces[client as usize] = Some(piece);
+        Ok(KeyPieces { life, pieces })
+    }
+
+    /// The life.
+    pub(crate) fn life(&self) -> u32
+        ensures { result ≡ self.now.life }
+    {
+        self.life
+    }
+
+    /// Puts a client's piece into its slot.
+    pub(crate) fn put(&mut self, client: u32, piece: KeptPiece)
+        requires { client < length self.old.shares }
+        ensures life { self.new.life ≡ self.old.life }
+        ensures slots { length self.new.shares ≡ length self.old.shares }
+        ensures shares { (c : ℕ) → share_in self.new c ≡ cond (c == client) (Some piece) (share_in self.old c) }
+    {
+        self.pieces[client as usize] = Some(piece);
+    }
+
+    /// A client's piece, where there is one.
+    #[inline]
+    pub(crate) fn piece(&self, client: u32) -> Option<&KeptPiece>
+        requires { client < length self.now.shares }
+        ensures { option_map (λ piece. piece.now) result ≡ share_in self.now client }
+    {
+        self.pieces[client as usize].as_ref()
+    }
+}

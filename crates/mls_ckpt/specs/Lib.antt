@@ -1,0 +1,9 @@
+pub mod Faults
+pub mod Reading
+pub mod Places
+pub mod States
+pub mod Spellings
+pub mod Checkpoints
+pub mod CellParts
+pub mod Laws
+pub mod Histories

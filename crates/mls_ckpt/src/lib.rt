@@ -1,0 +1,13 @@
+//! A rank's state as bytes: numbers put and taken in order, why bytes are refused, and what checkpoints are.
+#![tactic(auto)]
+
+pub mod faults;
+pub mod laws;
+pub mod put;
+pub mod take;
+#[cfg(test)]
+mod tests;
+
+pub use faults::{CkptWhy, RecoverFault, TakeFault};
+pub use put::Put;
+pub use take::Take;

@@ -1,0 +1,15 @@
+use Rattle.mls_examples.proofs.Computing.{of_events}
+use Rattle.std.proofs.Common.{refl}
+use Rattle.mls_examples.proofs.crashes.saved_life_goes_on.Goals as goal
+
+pub returns-clause-survivors : goal.returns-clause-survivors
+unfolding of_events
+returns-clause-survivors c = refl
+
+pub returns-clause-outcomes : goal.returns-clause-outcomes
+unfolding of_events
+returns-clause-outcomes c = refl
+
+pub returns-clause-saved : goal.returns-clause-saved
+unfolding of_events
+returns-clause-saved c = refl
