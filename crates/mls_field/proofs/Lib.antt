@@ -11,3 +11,4 @@ pub mod Growing
 pub mod Rooms
 pub mod Fronts
 pub mod Added
+pub mod Zeros

@@ -81,7 +81,7 @@ impl RowFold for Field {
     }
 
     fn reset(&mut self) {
-        let planes = self.counts.len();
+        let planes = self.shape.planes() as usize;
         self.counts.as_mut_slice().fill(0);
         self.waiting.as_mut_slice().fill(0);
         self.sums.as_mut_slice().fill(0);
