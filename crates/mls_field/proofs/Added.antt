@@ -89,7 +89,7 @@ field_waits s rank w counts waiting sums ends numbers samples samples' step n v 
 pub given_is : (n places plane w : ℕ) (signed : Bool) (given : ℕ → ℕ → ℕ) (samples samples' : List ℕ) → IsGathered n places plane w signed given samples samples' → ((i : ℕ) → get_or samples' i 0 ≤ 65535) → (place : ℕ) → place < places → IsRow n (shifted_row signed n given place)
 given_is n places plane w signed given samples samples' is small place here = subst (λ (row : List ℕ). IsRow n row) (row_given n places plane w signed given samples samples' is place here) (row_is n places samples' plane place w small)
 
-whole_long : (step : ℕ → List ℕ → ℕ → ℕ) (size places : ℕ) (numbers : List ℕ) (n : ℕ) (samples : List ℕ) (g plane place : ℕ) → length (whole_cell step size places numbers n samples g plane place) ≡ size
+pub whole_long : (step : ℕ → List ℕ → ℕ → ℕ) (size places : ℕ) (numbers : List ℕ) (n : ℕ) (samples : List ℕ) (g plane place : ℕ) → length (whole_cell step size places numbers n samples g plane place) ≡ size
 whole_long step size places numbers n samples g plane place = length-with_rows step (waiting_row n places samples plane place) g (cell_of size places numbers plane place) ∙ length-cell size places numbers plane place
 
 pub table_waits : (s : Sizes) (w : ℕ) (counts waiting sums ends numbers samples samples' : List ℕ) (t : Table) (step n v : ℕ) (given : ℕ → ℕ → ℕ) → IsTrue (rises s.thresholds) → HoldsTable s w counts waiting sums ends numbers samples t → step < length counts → n ≡ get_or counts step 0 → v < 8 → Waits step v (v + 1) waiting (set waiting step (v + 1)) → IsGathered (s.parameters + 2) w step v s.signed given samples samples' → ((i : ℕ) → get_or samples' i 0 ≤ 65535) → HoldsTable s w (set counts step (n + 1)) (set waiting step (v + 1)) sums ends numbers samples' (with_block t step w (shifted_row s.signed (s.parameters + 2) given))

@@ -12,3 +12,5 @@ pub mod Rooms
 pub mod Fronts
 pub mod Added
 pub mod Zeros
+pub mod Kept
+pub mod Whole

@@ -1,10 +1,11 @@
 //! The numbers of a single cell: read from their columns, and with the rows that wait for them.
 
 ghost use Rattle.std.specs.Prelude.{◌≡◌, ℕ, ◌+◌, ◌*◌, ◌^◌, ◌<◌, ◌≤◌, List, length, slice_index};
+ghost use Rattle.mls_power.specs.Standing.{count_of, first_of as power_first, second_of as power_second, third_of as power_third, fourth_of as power_fourth};
 ghost use Rattle.mls_field.specs.Cells.{with_rows};
 ghost use Rattle.mls_field.specs.ColumnSums.{sums_size, of_column, column_at, sums_step, IsWithin, most_added};
 ghost use Rattle.mls_field.specs.Gathered.{row_behind};
-ghost use Rattle.mls_field.specs.Kinds.{SumsWithin};
+ghost use Rattle.mls_field.specs.Kinds.{SumsWithin, first_of, second_of, third_of, fourth_of};
 ghost use Rattle.mls_field.specs.OneCell.{IsRowAt, SameFront, Stepped, HasRoomFor};
 ghost use Rattle.mls_field.specs.OutputSteps.{ends_step, numbers_step};
 
@@ -12,6 +13,9 @@ use crate::columns::{Column, column_of};
 use mls_base::shape::Shape;
 use mls_power::above::one_if_above;
 use mls_power::columns::{cube, fourth, high_half, low_half};
+use mls_power::ends::EXTREMA_NUMBERS;
+use mls_power::exceed::MOST_THRESHOLDS;
+use mls_power::power::Power;
 
 /// The most sums of a cell.
 pub(crate) const MOST_SUMS: usize = 72;
@@ -48,7 +52,7 @@ fn add_row(sums: &mut [u64], parameters: u32, samples: &[u16], at: usize, places
 }
 
 /// Adds the rows that wait for a cell to its sums.
-fn add_rows_to_sums(sums: &mut [u64], parameters: u32, samples: &[u16], start: usize, places: usize, place: usize, waiting: u32)
+pub(crate) fn add_rows_to_sums(sums: &mut [u64], parameters: u32, samples: &[u16], start: usize, places: usize, place: usize, waiting: u32)
     requires few { parameters ≤ 16 }
     requires size { sums_size parameters ≤ length sums.old }
     requires waiting { waiting ≤ 7 }
@@ -65,7 +69,7 @@ fn add_rows_to_sums(sums: &mut [u64], parameters: u32, samples: &[u16], start: u
 }
 
 /// Adds the rows that wait for a cell to its least and greatest samples.
-fn add_rows_to_ends(ends: &mut [u16], parameters: u32, samples: &[u16], start: usize, places: usize, place: usize, waiting: u32)
+pub(crate) fn add_rows_to_ends(ends: &mut [u16], parameters: u32, samples: &[u16], start: usize, places: usize, place: usize, waiting: u32)
     requires few { parameters ≤ 16 }
     requires size { length ends.old ≡ 2 }
     requires waiting { waiting ≤ 7 }
@@ -89,7 +93,7 @@ fn add_pair_to_ends(ends: &mut [u16], a: u16, b: u16)
 }
 
 fn add_pair_to_numbers(numbers: &mut [u32], shape: &Shape, a: u16, b: u16)
-    requires size { length numbers.old ≡ length shape.now.thresholds }
+    requires size { length shape.now.thresholds ≤ length numbers.old }
     requires room { (c : ℕ) → c < length shape.now.thresholds → slice_index numbers.old c ≤ 131068 }
     ensures { (row : List ℕ) → slice_index row 0 ≡ a → slice_index row 1 ≡ b → Stepped (numbers_step shape.now.thresholds) (length shape.now.thresholds) row numbers.old numbers.new }
 {
@@ -101,8 +105,8 @@ fn add_pair_to_numbers(numbers: &mut [u32], shape: &Shape, a: u16, b: u16)
 }
 
 /// Adds the rows that wait for a cell to its numbers above thresholds.
-fn add_rows_to_numbers(numbers: &mut [u32], shape: &Shape, samples: &[u16], start: usize, places: usize, place: usize, waiting: u32)
-    requires size { length numbers.old ≡ length shape.now.thresholds }
+pub(crate) fn add_rows_to_numbers(numbers: &mut [u32], shape: &Shape, samples: &[u16], start: usize, places: usize, place: usize, waiting: u32)
+    requires size { length shape.now.thresholds ≤ length numbers.old }
     requires waiting { waiting ≤ 7 }
     requires place { place < places }
     requires samples { start + (shape.now.parameters + 2) * places * 8 ≤ length samples.now }
@@ -117,7 +121,7 @@ fn add_rows_to_numbers(numbers: &mut [u32], shape: &Shape, samples: &[u16], star
 }
 
 /// The sums of a cell as they stand in their columns, in the front of an array.
-fn read_sums(words: &[u64], row: usize, size: usize, places: usize, place: usize) -> [u64; MOST_SUMS]
+pub(crate) fn read_sums(words: &[u64], row: usize, size: usize, places: usize, place: usize) -> [u64; MOST_SUMS]
     requires size { size ≤ 72 }
     requires place { place < places }
     requires row { row + size < 2 ^ 63 }
@@ -129,4 +133,48 @@ fn read_sums(words: &[u64], row: usize, size: usize, places: usize, place: usize
         sums[c] = words[(row + c) * places + place];
     }
     sums
+}
+
+/// The least and the greatest sample of a cell as they stand in their columns.
+pub(crate) fn read_ends(ends: &[u16], row: usize, places: usize, place: usize) -> [u16; EXTREMA_NUMBERS]
+    requires place { place < places }
+    requires row { row + 2 < 2 ^ 63 }
+    requires ends { (row + 2) * places ≤ length ends.now }
+    ensures least { slice_index result 0 ≡ slice_index ends.now (row * places + place) }
+    ensures greatest { slice_index result 1 ≡ slice_index ends.now ((row + 1) * places + place) }
+{
+    [ends[row * places + place], ends[(row + 1) * places + place]]
+}
+
+/// The numbers of a cell above thresholds as they stand in their columns, in the front of an array.
+pub(crate) fn read_numbers(numbers: &[u32], row: usize, size: usize, places: usize, place: usize) -> [u32; MOST_THRESHOLDS]
+    requires size { size ≤ 8 }
+    requires place { place < places }
+    requires row { row + size < 2 ^ 63 }
+    requires numbers { (row + size) * places ≤ length numbers.now }
+    ensures { (c : ℕ) → c < size → slice_index result c ≡ slice_index numbers.now ((row + c) * places + place) }
+{
+    let mut read = [0; MOST_THRESHOLDS];
+    for c in 0..size {
+        read[c] = numbers[(row + c) * places + place];
+    }
+    read
+}
+
+/// The power sums of A and B that the sums of so many rows hold.
+pub(crate) fn power_of(sums: &[u64], parameters: u32, rows: u32) -> Power
+    requires few { rows ≤ 65535 }
+    requires parameters { parameters ≤ 16 }
+    requires size { sums_size parameters ≤ length sums.now }
+    requires range { SumsWithin parameters rows sums.now }
+    ensures count { count_of result ≡ 2 * rows }
+    ensures first { power_first result ≡ first_of sums.now }
+    ensures second { power_second result ≡ second_of sums.now }
+    ensures third { power_third result ≡ third_of parameters sums.now }
+    ensures fourth { power_fourth result ≡ fourth_of parameters sums.now }
+{
+    let at = 4 + 4 * parameters as usize;
+    let third = sums[at] as u128 + sums[at + 1] as u128;
+    let fourth = sums[at + 2] as u128 + 4294967296 * sums[at + 3] as u128;
+    Power::from_sums(2 * rows, sums[0] + sums[1], sums[2] + sums[3], third, fourth)
 }

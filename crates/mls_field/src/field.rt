@@ -2,6 +2,10 @@
 
 ghost use Rattle.mls_field.specs.Fields.{IsField};
 
+use crate::cells::{
+    MOST_SUMS, add_rows_to_ends, add_rows_to_numbers, add_rows_to_sums, power_of, read_ends,
+    read_numbers, read_sums,
+};
 use crate::columns::{add_to_ends, add_to_numbers, add_to_sums};
 use crate::ends::clear_ends;
 use crate::fold::RowFold;
@@ -9,8 +13,12 @@ use crate::gathered::gather;
 use mls_base::faults::NoMemory;
 use mls_base::rows::Rows;
 use mls_base::shape::Shape;
+use mls_cov::Martinez;
 use mls_power::columns::GROUPS;
 use mls_power::ends::EXTREMA_NUMBERS;
+use mls_power::exceed::{Exceed, MOST_THRESHOLDS};
+use mls_power::extrema::Extrema;
+use mls_power::power::{Power, Powers};
 use std::alloc::Global;
 
 /// The sums of the rows of each cell of a rank's block, for each plane: all that `Power`, `Extrema`, `Exceed` and `Martinez` keep, over shifted values.
@@ -91,12 +99,25 @@ impl RowFold for Field {
 }
 
 impl Field {
-    ghost use Rattle.std.specs.Prelude.{◌≡◌, ◌==◌, ℕ, ◌+◌, ◌*◌, ◌<◌, ◌≤◌, length, slice_index, cond};
+    ghost use Rattle.std.specs.Prelude.{◌≡◌, ◌==◌, ℕ, ◌+◌, ◌*◌, ◌<◌, ◌≤◌, length, map, slice_index, cond};
+    ghost use Rattle.mls_model.specs.Samples.{unshifted};
     ghost use Rattle.mls_model.specs.Studies.{planes};
     ghost use Rattle.mls_model.specs.Blocks.{block, width};
     ghost use Rattle.mls_model.specs.Standing.{Table, with_block};
-    ghost use Rattle.mls_field.specs.ShiftedRows.{shifted_row};
+    ghost use Rattle.mls_model.specs.Statistics.{outputs, variance_top, third_top};
+    ghost use Rattle.mls_power.specs.Standing.{count_of, StandsFor as PowerStandsFor, ArePowers};
+    ghost use Rattle.mls_power.specs.ExtremaStanding.{ExtremaStandFor};
+    ghost use Rattle.mls_power.specs.ExceedStanding.{exceed_count_of, ExceedStandsFor};
+    ghost use Rattle.mls_cov.specs.Standing.{count_of as martinez_count_of, parameters_of, StandsFor as MartinezStandsFor};
     ghost use Rattle.mls_field.specs.Stands.{shape_of, rank_of, row_count, StandsFor};
+    ghost use Rattle.mls_field.specs.ColumnSums.{sums_size};
+    ghost use Rattle.mls_field.specs.Gathered.{plane_start};
+    ghost use Rattle.mls_field.specs.Kinds.{SumsWithin};
+    ghost use Rattle.mls_field.specs.OneCell.{SameFront};
+    ghost use Rattle.mls_field.specs.ShiftedRows.{shifted_row, shifted_outputs};
+    ghost use Rattle.mls_field.specs.Kept.{sums_in_cell, ends_in_cell, numbers_in_cell, sums_at, HasPowers, HasEnds, HasNumbers, HasProducts, HasValuePowers};
+    ghost use Rattle.mls_model.specs.CellSums.{sums_of};
+    ghost use Rattle.mls_model.specs.SumsText.{height, variance_top_of, third_top_of};
 
     // Puts a row at each place of a plane with those that wait.
     fn keep_waiting<R: Rows>(&mut self, step: u32, rows: &R)
@@ -146,5 +167,172 @@ impl Field {
         add_to_numbers(self.numbers.as_mut_slice(), row, places, &shape, samples, start);
         self.counts[plane] += 1;
         self.waiting[plane] = 0;
+    }
+
+    /// How many rows were added to a plane.
+    pub fn rows(&self, step: u32) -> u32
+        requires { step < planes (shape_of self.now) }
+        ensures value { result ≡ row_count self.now step }
+        ensures few { result ≤ 65535 }
+        ensures kept { (place : ℕ) → (sums_at self.now step place).rows ≡ result }
+        ensures sums { (t : Table) → StandsFor self.now t → (place : ℕ) → place < width (block (shape_of self.now) (rank_of self.now)) → sums_at self.now step place ≡ sums_of (shape_of self.now).parameters (shape_of self.now).thresholds (t step place) }
+        ensures table { (t : Table) → StandsFor self.now t → (place : ℕ) → place < width (block (shape_of self.now) (rank_of self.now)) → length (t step place) ≡ result }
+    {
+        self.counts[step as usize]
+    }
+
+    // Where the samples that wait for a plane begin.
+    fn first_sample(&self, step: u32) -> usize
+        requires { step < planes (shape_of self.now) }
+        ensures value { result ≡ plane_start ((shape_of self.now).parameters + 2) self.now.places step }
+        ensures fits { result + ((shape_of self.now).parameters + 2) * self.now.places * 8 ≤ length self.now.samples.items }
+    {
+        let stride = (self.shape.parameters() as usize + 2) * self.places as usize;
+        step as usize * (GROUPS * stride)
+    }
+
+    // How many rows wait for a plane.
+    fn waiting_rows(&self, step: u32) -> u32
+        requires { step < planes (shape_of self.now) }
+        ensures value { result ≡ slice_index self.now.waiting.items step }
+        ensures few { result ≤ 7 }
+    {
+        self.waiting[step as usize]
+    }
+
+    // The sums of a cell, with the rows that wait for it, in the front of an array.
+    fn whole_sums(&self, step: u32, cell: u32) -> [u64; MOST_SUMS]
+        requires step_in { step < planes (shape_of self.now) }
+        requires cell_in { cell < width (block (shape_of self.now) (rank_of self.now)) }
+        ensures front { SameFront (sums_size (shape_of self.now).parameters) result (sums_in_cell self.now step cell) }
+        ensures range { SumsWithin (shape_of self.now).parameters (row_count self.now step) result }
+    {
+        let parameters = self.shape.parameters();
+        let places = self.places as usize;
+        let place = cell as usize;
+        let size = 8 + 4 * parameters as usize;
+        let start = self.first_sample(step);
+        let waiting = self.waiting_rows(step);
+        let samples = self.samples.as_slice();
+        let mut sums = read_sums(self.sums.as_slice(), step as usize * size, size, places, place);
+        add_rows_to_sums(&mut sums, parameters, samples, start, places, place, waiting);
+        sums
+    }
+
+    // The least and the greatest sample of a cell, with the rows that wait for it.
+    fn whole_ends(&self, step: u32, cell: u32) -> [u16; EXTREMA_NUMBERS]
+        requires step_in { step < planes (shape_of self.now) }
+        requires cell_in { cell < width (block (shape_of self.now) (rank_of self.now)) }
+        ensures { SameFront 2 result (ends_in_cell self.now step cell) }
+    {
+        let parameters = self.shape.parameters();
+        let places = self.places as usize;
+        let place = cell as usize;
+        let start = self.first_sample(step);
+        let waiting = self.waiting_rows(step);
+        let samples = self.samples.as_slice();
+        let row = step as usize * EXTREMA_NUMBERS;
+        let mut ends = read_ends(self.ends.as_slice(), row, places, place);
+        add_rows_to_ends(&mut ends, parameters, samples, start, places, place, waiting);
+        ends
+    }
+
+    // The numbers of a cell above thresholds, with the rows that wait for it, in the front of an array.
+    fn whole_numbers(&self, step: u32, cell: u32) -> [u32; MOST_THRESHOLDS]
+        requires step_in { step < planes (shape_of self.now) }
+        requires cell_in { cell < width (block (shape_of self.now) (rank_of self.now)) }
+        ensures { SameFront (length (shape_of self.now).thresholds) result (numbers_in_cell self.now step cell) }
+    {
+        let places = self.places as usize;
+        let place = cell as usize;
+        let size = self.shape.thresholds() as usize;
+        let start = self.first_sample(step);
+        let waiting = self.waiting_rows(step);
+        let samples = self.samples.as_slice();
+        let row = step as usize * size;
+        let mut numbers = read_numbers(self.numbers.as_slice(), row, size, places, place);
+        add_rows_to_numbers(&mut numbers, &self.shape, samples, start, places, place, waiting);
+        numbers
+    }
+
+    /// The power sums of a cell, over shifted values.
+    pub fn power(&self, step: u32, cell: u32) -> Power
+        requires step_in { step < planes (shape_of self.now) }
+        requires cell_in { cell < width (block (shape_of self.now) (rank_of self.now)) }
+        ensures count { count_of result ≡ 2 * row_count self.now step }
+        ensures kept { HasPowers (sums_at self.now step cell) result }
+        ensures sums { (t : Table) → StandsFor self.now t → PowerStandsFor result (shifted_outputs (t step cell)) }
+    {
+        let sums = self.whole_sums(step, cell);
+        power_of(&sums, self.shape.parameters(), self.rows(step))
+    }
+
+    /// The least and the greatest sample of a cell, as shifted values.
+    pub fn extrema(&self, step: u32, cell: u32) -> Extrema
+        requires step_in { step < planes (shape_of self.now) }
+        requires cell_in { cell < width (block (shape_of self.now) (rank_of self.now)) }
+        ensures kept { HasEnds (sums_at self.now step cell) result }
+        ensures ends { (t : Table) → StandsFor self.now t → ExtremaStandFor result (shifted_outputs (t step cell)) }
+        ensures outputs { (t : Table) → StandsFor self.now t → outputs (map (map (unshifted (shape_of self.now).signed)) (t step cell)) ≡ map (unshifted (shape_of self.now).signed) (shifted_outputs (t step cell)) }
+    {
+        let ends = self.whole_ends(step, cell);
+        Extrema::unpacked(&ends)
+    }
+
+    /// How many samples of a cell are above each threshold.
+    pub fn exceed(&self, step: u32, cell: u32) -> Exceed
+        requires step_in { step < planes (shape_of self.now) }
+        requires cell_in { cell < width (block (shape_of self.now) (rank_of self.now)) }
+        ensures count { exceed_count_of result ≡ 2 * row_count self.now step }
+        ensures kept { HasNumbers (length (shape_of self.now).thresholds) (sums_at self.now step cell) result }
+        ensures numbers { (t : Table) → StandsFor self.now t → ExceedStandsFor (shape_of self.now).thresholds result (shifted_outputs (t step cell)) }
+        ensures outputs { (t : Table) → StandsFor self.now t → outputs (map (map (unshifted (shape_of self.now).signed)) (t step cell)) ≡ map (unshifted (shape_of self.now).signed) (shifted_outputs (t step cell)) }
+    {
+        let numbers = self.whole_numbers(step, cell);
+        let size = self.shape.thresholds() as usize;
+        Exceed::unpacked(2 * self.rows(step), &numbers[..size])
+    }
+
+    /// The sums of which the indices of a cell are made, over shifted values.
+    pub fn martinez(&self, step: u32, cell: u32) -> Martinez
+        requires step_in { step < planes (shape_of self.now) }
+        requires cell_in { cell < width (block (shape_of self.now) (rank_of self.now)) }
+        ensures count { martinez_count_of result ≡ row_count self.now step }
+        ensures parameters { parameters_of result ≡ (shape_of self.now).parameters }
+        ensures kept { HasProducts (shape_of self.now).parameters (sums_at self.now step cell) result }
+        ensures sums { (t : Table) → StandsFor self.now t → MartinezStandsFor result (t step cell) }
+    {
+        let sums = self.whole_sums(step, cell);
+        Martinez::unpacked(self.rows(step), self.shape.parameters(), &sums)
+    }
+
+    /// The power sums of a cell, over values.
+    pub fn powers(&self, step: u32, cell: u32) -> Powers
+        requires step_in { step < planes (shape_of self.now) }
+        requires cell_in { cell < width (block (shape_of self.now) (rank_of self.now)) }
+        ensures kept { HasValuePowers (height (shape_of self.now).signed) (sums_at self.now step cell) result }
+        ensures values { (t : Table) → StandsFor self.now t → ArePowers result (outputs (map (map (unshifted (shape_of self.now).signed)) (t step cell))) }
+    {
+        self.power(step, cell).powers(self.shape.signed())
+    }
+
+    /// V of a cell's values: with N values, N · V is the sum of (N · w − p1)².
+    pub fn variance_top(&self, step: u32, cell: u32) -> i128
+        requires step_in { step < planes (shape_of self.now) }
+        requires cell_in { cell < width (block (shape_of self.now) (rank_of self.now)) }
+        ensures kept { result ≡ variance_top_of (sums_at self.now step cell) }
+        ensures values { (t : Table) → StandsFor self.now t → result ≡ variance_top (outputs (map (map (unshifted (shape_of self.now).signed)) (t step cell))) }
+    {
+        self.power(step, cell).variance_top()
+    }
+
+    /// U of a cell's values: with N values, N · U is the sum of (N · w − p1)³.
+    pub fn third_top(&self, step: u32, cell: u32) -> i128
+        requires step_in { step < planes (shape_of self.now) }
+        requires cell_in { cell < width (block (shape_of self.now) (rank_of self.now)) }
+        ensures kept { result ≡ third_top_of (sums_at self.now step cell) }
+        ensures values { (t : Table) → StandsFor self.now t → result ≡ third_top (outputs (map (map (unshifted (shape_of self.now).signed)) (t step cell))) }
+    {
+        self.power(step, cell).third_top()
     }
 }
