@@ -143,3 +143,16 @@ gathered_block n n' n'' places places' plane w signed signed' given items held n
   behind = λ j high.
       ap (λ (xs : List ℕ). slice_index xs j) f ∙ (behind j (rw (a, b, c) high) ∙ ap (λ (xs : List ℕ). slice_index xs j) e);
 }
+
+-- the same, where the plane's samples begin at a start that the code has read
+pub gathered_from : (n n' n'' places places' plane w start : ℕ) (signed signed' : Bool) (given : ℕ → ℕ → ℕ) (items held new now : List ℕ) → start ≡ plane_start n places plane → n' ≡ n → n'' ≡ n → places' ≡ places → signed' ≡ signed → held ≡ items → now ≡ new
+    → ((r i : ℕ) → r < n' → i < places' → slice_index new (start + w * (n'' * places) + r * places' + i) ≡ shifted signed' (given r i))
+    → ((j : ℕ) → j < start + w * (n'' * places) → slice_index new j ≡ slice_index held j)
+    → ((j : ℕ) → start + w * (n'' * places) + n' * places' ≤ j → slice_index new j ≡ slice_index held j)
+    → IsGathered n places plane w signed given items now
+gathered_from n n' n'' places places' plane w start signed signed' given items held new now s a b c d e f values before behind =
+    let at : start ≡ plane * (8 * (n'' * places)) = s ∙ ap (λ (m : ℕ). plane * (8 * (m * places))) (sym b) in
+    gathered_block n n' n'' places places' plane w signed signed' given items held new now a b c d e f
+    (subst (λ (x : ℕ). (r i : ℕ) → r < n' → i < places' → slice_index new (x + w * (n'' * places) + r * places' + i) ≡ shifted signed' (given r i)) at values)
+    (subst (λ (x : ℕ). (j : ℕ) → j < x + w * (n'' * places) → slice_index new j ≡ slice_index held j) at before)
+    (subst (λ (x : ℕ). (j : ℕ) → x + w * (n'' * places) + n' * places' ≤ j → slice_index new j ≡ slice_index held j) at behind)

@@ -134,7 +134,7 @@ impl Field {
         let plane = step as usize;
         let stride = (self.shape.parameters() as usize + 2) * self.places as usize;
         let waiting = self.waiting[plane];
-        let start = plane * (GROUPS * stride) + waiting as usize * stride;
+        let start = self.first_sample(step) + waiting as usize * stride;
         gather(self.samples.as_mut_slice(), start, self.shape.signed(), rows);
         self.counts[plane] += 1;
         self.waiting[plane] = waiting + 1;

@@ -7,5 +7,5 @@ mod ends;
 pub mod field;
 pub mod fold;
 mod gathered;
-
-
+#[cfg(test)]
+mod tests;

@@ -8,7 +8,8 @@ use Rattle.mls_field.specs.Fields.{IsField, HoldsTable}
 use Rattle.mls_field.specs.Gathered.{plane_start}
 use Rattle.mls_field.specs.ShiftedRows.{shifted_row}
 use Rattle.mls_field.proofs.InPlace.{spliced}
-use Rattle.mls_field.proofs.Growing.{IsGathered, gathered_block, row_fits}
+use Rattle.mls_field.proofs.Grid.{plane_before}
+use Rattle.mls_field.proofs.Growing.{IsGathered, gathered_from}
 use Rattle.mls_field.proofs.Added.{field_waits, table_waits, waits_after}
 use Rattle.mls_field.proofs.field.Field.keep_waiting.Given.{Over}
 use Rattle.mls_field.proofs.field.Field.keep_waiting.Goals as goal
@@ -21,21 +22,21 @@ pub gather-requires : goal.gather-requires
 gather-requires g c =
     let f = c.args.self.now in
     let few : c.index-waiting.result.now < 8 = omega (arith, waits g (goal.at.gather-requires g c).After-index-waiting, c.requires.waiting) in
-    let fits = row_fits (f.shape.parameters + 2) f.places c.args.step c.index-waiting.result.now (planes f.shape) c.requires.plane_in few in
+    let fits = plane_before c.index-waiting.result.now 8 ((f.shape.parameters + 2) * f.places) few in
     record { size =
-        rw (c.parameters.ensures.value, c.requires.rows, c.requires.cells ∙ sym f.kept.block_width) (omega (arith, fits, f.kept.room, ap length c.as_mut_slice.ensures.value)) }
+        rw (c.parameters.ensures.value, c.requires.rows, c.requires.cells ∙ sym f.kept.block_width) (omega (arith, fits, c.first_sample.ensures.fits, ap length c.as_mut_slice.ensures.value)) }
 
 -- the samples after the call
 gathered : (g : Over) (c : After-gather g) → let f = c.args.self.now in IsGathered (f.shape.parameters + 2) f.places c.args.step c.index-waiting.result.now f.shape.signed (g.R.Rows.sample c.args.rows.now) f.samples.items (take f.samples.len (c.gather.new.samples ++ drop (length c.gather.new.samples) f.samples.items))
 gathered g c =
     let f = c.args.self.now in
-    gathered_block (f.shape.parameters + 2) (g.R.Rows.row_count c.args.rows.now) (c.parameters.result + 2) f.places (g.R.Rows.place_count c.args.rows.now) c.args.step c.index-waiting.result.now f.shape.signed c.signed.result (g.R.Rows.sample c.args.rows.now) f.samples.items c.as_mut_slice.result.now c.gather.new.samples _
-    c.requires.rows (ap (λ (p : ℕ). p + 2) c.parameters.ensures.value) (c.requires.cells ∙ sym f.kept.block_width) c.signed.ensures.value c.as_mut_slice.ensures.value (spliced f.samples.items c.as_mut_slice.result.now c.gather.new.samples f.samples.len c.as_mut_slice.ensures.len c.gather.auto.samples) c.gather.ensures.values c.gather.ensures.before c.gather.ensures.behind
+    gathered_from (f.shape.parameters + 2) (g.R.Rows.row_count c.args.rows.now) (c.parameters.result + 2) f.places (g.R.Rows.place_count c.args.rows.now) c.args.step c.index-waiting.result.now c.first_sample.result f.shape.signed c.signed.result (g.R.Rows.sample c.args.rows.now) f.samples.items c.as_mut_slice.result.now c.gather.new.samples _
+    c.first_sample.ensures.value c.requires.rows (ap (λ (p : ℕ). p + 2) c.parameters.ensures.value) (c.requires.cells ∙ sym f.kept.block_width) c.signed.ensures.value c.as_mut_slice.ensures.value (spliced f.samples.items c.as_mut_slice.result.now c.gather.new.samples f.samples.len c.as_mut_slice.ensures.len c.gather.auto.samples) c.gather.ensures.values c.gather.ensures.before c.gather.ensures.behind
 
-pub invariant_of-self : goal.invariant_of-self
-invariant_of-self g c =
+pub invariant_of-self-3 : goal.invariant_of-self-3
+invariant_of-self-3 g c =
     let f = c.args.self.now in
-    let at = goal.at.invariant_of-self g c in
+    let at = goal.at.invariant_of-self-3 g c in
     let is = waits g at.After-index-waiting in
     let same = spliced f.samples.items c.as_mut_slice.result.now c.gather.new.samples f.samples.len c.as_mut_slice.ensures.len c.gather.auto.samples in
     let count : c.index_mut.result.now ≡ get_or f.counts.items c.args.step 0 = get_or_read f.counts.items c.args.step _ (omega (arith, f.kept.each_plane, c.requires.plane_in)) c.index_mut.ensures.value 0 in
