@@ -1,5 +1,5 @@
 -- What a row at each place of a plane does to the lists that a field is made of.
-use Rattle.std.proofs.Common.{◌≡◌, ◌≢◌, ℕ, ◌+◌, ◌-◌, ◌*◌, ◌<◌, ◌≤◌, Bool, List, length, get_or, set, inl, inr, ap, ◌∙◌, refl, sym, subst, arith}
+use Rattle.std.proofs.Common.{◌≡◌, ◌≢◌, ℕ, ◌+◌, ◌*◌, ◌<◌, ◌≤◌, Bool, List, length, get_or, set, inl, inr, ap, ◌∙◌, refl, sym, subst, arith}
 use Rattle.std.specs.Prelude.{IsTrue}
 use Rattle.std.specs.List.{AllByRecursion}
 use Rattle.std.proofs.lemmas.Bool.{cases_order}
@@ -10,7 +10,7 @@ use Rattle.mls_field.specs.Cells.{cell_of, whole_cell}
 use Rattle.mls_field.specs.ColumnSums.{sums_size, sums_step, column_at, most_before}
 use Rattle.mls_field.proofs.Rooms.{sum_small, before_eight}
 use Rattle.mls_field.specs.OutputSteps.{ends_step, numbers_step}
-use Rattle.mls_field.specs.Fields.{IsPart, HoldsPart, IsField, HoldsTable, added_of}
+use Rattle.mls_field.specs.Fields.{IsPart, IsField, HoldsTable, added_of}
 use Rattle.mls_field.specs.Kinds.{SumsWithin, HoldSums, ExtremaWithin, HoldExtrema, NumbersWithin, HoldNumbers}
 use Rattle.mls_field.specs.ShiftedRows.{shifted_row}
 use Rattle.mls_field.specs.Gathered.{waiting_row}

@@ -1,7 +1,6 @@
 -- A block of rows that is given to a plane, and what it does to the numbers of cells with the rows that wait.
-use Rattle.std.proofs.Common.{◌≡◌, ◌≢◌, ℕ, zero, suc, ◌+◌, ◌-◌, ◌*◌, ◌<◌, ◌≤◌, List, [], ◌∷◌, ◌++◌, length, slice_index, Bool, inl, inr, ap, ◌∙◌, refl, sym, subst, arith}
+use Rattle.std.proofs.Common.{◌≡◌, ◌≢◌, ℕ, ◌+◌, ◌*◌, ◌<◌, ◌≤◌, List, [], ◌∷◌, ◌++◌, length, slice_index, Bool, inl, inr, ap, ◌∙◌, sym, subst, arith}
 use Rattle.std.proofs.lemmas.Bool.{cases_lt, cases_order}
-use Rattle.std.proofs.lemmas.Nat.{mul-le}
 use Rattle.std.proofs.lemmas.List.{length-map}
 use Rattle.mls_model.specs.Numbers.{below}
 use Rattle.mls_model.specs.Samples.{shifted}
@@ -9,13 +8,13 @@ use Rattle.mls_model.specs.CellSums.{sample}
 use Rattle.mls_model.specs.Standing.{Table, with_block}
 use Rattle.mls_field.specs.Cells.{cell_of, with_row, with_rows, whole_cell}
 use Rattle.mls_field.specs.Fields.{HoldsPart}
-use Rattle.mls_field.specs.Gathered.{row_behind, plane_start, waiting_row}
+use Rattle.mls_field.specs.Gathered.{plane_start, waiting_row}
 use Rattle.mls_field.specs.ShiftedRows.{shifted_row}
 use Rattle.mls_field.specs.Walk.{Walk}
 use Rattle.mls_field.proofs.Rows.{length-below, entry_of, same_entries}
 use Rattle.mls_field.proofs.Grid.{plane_before, with_block_there, with_block_elsewhere}
 use Rattle.mls_field.proofs.OneRow.{get_or-beyond}
-use Rattle.mls_field.proofs.WholeCells.{IsRow, IsKind, length-cell, length-with_rows, rows_none, rows_more, same_rows, cell_walked, cell_elsewhere}
+use Rattle.mls_field.proofs.WholeCells.{IsRow, IsKind, rows_none, rows_more, same_rows, cell_walked, cell_elsewhere}
 
 -- ---- the samples that wait
 -- the samples of row w of a plane are those of a block, and all others stay
@@ -51,9 +50,9 @@ row_is n places samples plane place g small =
     record {
       long = long;
       small = λ j. elim (cases_lt j n) [
-          | inl low ↦ (let e : sample j (waiting_row n places samples plane place g) ≡ f j = entry_of f n j low in omega (arith, e, small (n * places * g + (plane_start n places plane + j * places + place))))
-          | inr high ↦ (let e : sample j (waiting_row n places samples plane place g) ≡ 0 = get_or-beyond (waiting_row n places samples plane place g) j (omega (arith, long, high)) in omega (arith, e))
-        ];
+        | inl low ↦ (let e : sample j (waiting_row n places samples plane place g) ≡ f j = entry_of f n j low in omega (arith, e, small (n * places * g + (plane_start n places plane + j * places + place))))
+        | inr high ↦ (let e : sample j (waiting_row n places samples plane place g) ≡ 0 = get_or-beyond (waiting_row n places samples plane place g) j (omega (arith, long, high)) in omega (arith, e))
+      ];
     }
 
 -- ---- the cells
@@ -107,13 +106,13 @@ module _ (step : ℕ → List ℕ → ℕ → ℕ) (size places n plane w : ℕ)
 pub part_grows : (within : ℕ → List ℕ → Type 0) (holds : List ℕ → List (List ℕ) → Type 0) (step : ℕ → List ℕ → ℕ → ℕ) (size n planes places plane : ℕ) (old new : ℕ → ℕ → List ℕ) (row : ℕ → List ℕ) (t : Table) → IsKind within holds step size n → ((place : ℕ) → length (old plane place) ≡ size) → ((place : ℕ) → place < places → IsRow n (row place)) → Grows step places plane old new row → HoldsPart holds planes places old t → HoldsPart holds planes places new (with_block t plane places row)
 part_grows within holds step size n planes places plane old new row t kind long rows grows part = record {
   each = λ p place p_in here. elim (cases_order p plane) [
-      | inl same ↦ subst (λ (q : ℕ). holds (new q place) (with_block t plane places row q place)) (sym same)
-          (subst (λ (rs : List (List ℕ)). holds (new plane place) rs) (sym (with_block_there t plane places row place here))
-          (subst (λ (xs : List ℕ). holds xs (t plane place ++ row place ∷ [])) (sym (grows.there place here))
-          (kind.adds (old plane place) (row place) (long place) (rows place here) (t plane place) (part.each plane place (subst (λ (q : ℕ). q < planes) same p_in) here))))
-      | inr (inl low) ↦ other p place p_in here (λ e. absurd (omega (arith, e, low)))
-      | inr (inr high) ↦ other p place p_in here (λ e. absurd (omega (arith, e, high)))
-    ];
+    | inl same ↦ subst (λ (q : ℕ). holds (new q place) (with_block t plane places row q place)) (sym same)
+        (subst (λ (rs : List (List ℕ)). holds (new plane place) rs) (sym (with_block_there t plane places row place here))
+        (subst (λ (xs : List ℕ). holds xs (t plane place ++ row place ∷ [])) (sym (grows.there place here))
+        (kind.adds (old plane place) (row place) (long place) (rows place here) (t plane place) (part.each plane place (subst (λ (q : ℕ). q < planes) same p_in) here))))
+    | inr (inl low) ↦ other p place p_in here (λ e. absurd (omega (arith, e, low)))
+    | inr (inr high) ↦ other p place p_in here (λ e. absurd (omega (arith, e, high)))
+  ];
 }
   where
     other : (p place : ℕ) → p < planes → place < places → p ≢ plane → holds (new p place) (with_block t plane places row p place)

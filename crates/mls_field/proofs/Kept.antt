@@ -1,5 +1,5 @@
 -- The sums that are kept of rows are the sums of these rows.
-use Rattle.std.proofs.Common.{◌≡◌, ℕ, zero, suc, ◌+◌, ◌*◌, ◌/◌, ◌%◌, ◌<◌, ◌≤◌, List, [], ◌∷◌, ◌++◌, length, map, take, get_or, pos, unsigned_abs, ap, ◌∙◌, refl, sym, inl, inr, arith}
+use Rattle.std.proofs.Common.{◌≡◌, ℕ, zero, suc, ◌+◌, ◌*◌, ◌/◌, ◌%◌, ◌<◌, List, [], ◌∷◌, ◌++◌, length, map, take, get_or, pos, unsigned_abs, ap, ◌∙◌, refl, sym, inl, inr, arith}
 use Rattle.std.specs.List.{flat_map, sum_by, AllByRecursion}
 use Rattle.std.proofs.lemmas.Bool.{cases_lt}
 use Rattle.std.proofs.lemmas.Grind.{same_number_lists}
@@ -19,8 +19,8 @@ use Rattle.mls_model.specs.Studies.{planes}
 use Rattle.mls_model.specs.Blocks.{block, width}
 use Rattle.mls_field.specs.Stands.{shape_of, rank_of, StandsFor}
 use Rattle.mls_field.specs.ColumnSums.{sums_size}
-use Rattle.mls_field.specs.Kinds.{HoldSums, first_of, second_of}
-use Rattle.mls_field.specs.Kept.{sums_in_cell, ends_in_cell, numbers_in_cell, sums_at, HasPowers, HasEnds, HasNumbers}
+use Rattle.mls_field.specs.Kinds.{first_of, second_of}
+use Rattle.mls_field.specs.Kept.{sums_in_cell, numbers_in_cell, sums_at, HasPowers, HasEnds, HasNumbers}
 use Rattle.mls_field.specs.ShiftedRows.{shifted_outputs}
 use Rattle.mls_power.specs.declared.power.Power.{Power}
 use Rattle.mls_power.specs.declared.extrema.Extrema.{Extrema}

@@ -1,5 +1,5 @@
 -- What one more row does to the numbers of a cell, kind by kind.
-use Rattle.std.proofs.Common.{◌≡◌, ℕ, zero, suc, ◌+◌, ◌-◌, ◌*◌, ◌/◌, ◌%◌, ◌^◌, ◌<◌, ◌≤◌, List, [], ◌∷◌, ◌++◌, length, slice_index, pos, min, max, ap, ◌∙◌, refl, sym, subst, inl, inr, arith}
+use Rattle.std.proofs.Common.{◌≡◌, ℕ, zero, suc, ◌+◌, ◌*◌, ◌^◌, ◌<◌, ◌≤◌, List, [], ◌∷◌, ◌++◌, length, slice_index, pos, min, max, ap, ◌∙◌, refl, sym, subst, inl, inr, arith}
 use Rattle.std.specs.List.{sum_by}
 use Rattle.std.specs.Prelude.{IsTrue}
 use Rattle.std.proofs.lemmas.Bool.{cases_lt}
@@ -16,8 +16,6 @@ use Rattle.std.proofs.lemmas.List.Sums.{sum_by_push}
 use Rattle.mls_model.specs.CellSums.{sample}
 use Rattle.mls_power.specs.ColumnSteps.{cube_of, fourth_of, low_half, high_half}
 use Rattle.mls_cov.specs.Steps.{Grew}
-use Rattle.mls_cov.specs.Sums.{HoldsSums}
-use Rattle.mls_cov.specs.Rules.{KeepsRules}
 use Rattle.mls_cov.proofs.Bounds.{AddsRow as AddsProducts, rules_more}
 use Rattle.mls_cov.proofs.Rows.{holds_more}
 use Rattle.mls_field.specs.ShiftedRows.{shifted_outputs}
@@ -161,9 +159,9 @@ numbers_grow : (thresholds old new row : List ℕ) → StepsNumbers thresholds o
 numbers_grow ts old new row steps = record {
   rises = steps.rises;
   each = λ k. elim (cases_lt k (length ts)) [
-      | inl low ↦ grind (arith, nat_tests, steps.each k low)
-      | inr high ↦ (let e = get_or-beyond old k (omega (arith, high, steps.long)) in let f = get_or-beyond new k (omega (arith, high, steps.long')) in grind (arith, nat_tests, e, f))
-    ];
+    | inl low ↦ grind (arith, nat_tests, steps.each k low)
+    | inr high ↦ (let e = get_or-beyond old k (omega (arith, high, steps.long)) in let f = get_or-beyond new k (omega (arith, high, steps.long')) in grind (arith, nat_tests, e, f))
+  ];
 }
 
 pub numbers_within : (n : ℕ) (thresholds old new row : List ℕ) → StepsNumbers thresholds old new row → NumbersWithin n old → NumbersWithin (n + 1) new

@@ -1,5 +1,5 @@
 -- The three kinds of numbers of a cell.
-use Rattle.std.proofs.Common.{◌≡◌, ℕ, ◌+◌, ◌*◌, List, length, refl, ◌∙◌, arith}
+use Rattle.std.proofs.Common.{◌≡◌, ℕ, ◌+◌, List, length, ◌∙◌, arith}
 use Rattle.std.specs.Prelude.{IsTrue}
 use Rattle.mls_model.specs.Studies.{rises}
 use Rattle.mls_field.specs.Cells.{with_row}

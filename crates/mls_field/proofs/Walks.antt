@@ -44,23 +44,23 @@ column_there row c places from count old mid new step fits walk walked k low =
 pub column_more : (row c places from count : ℕ) (old mid new : List ℕ) (step : ℕ → ℕ → ℕ → ℕ → ℕ) → from + count ≤ places → Walk row c places from (from + count) old mid step → Walked ((row + c) * places + from) count 8 mid new (λ k. step c (from + k)) → Walk row (c + 1) places from (from + count) old new step
 column_more row c places from count old mid new step fits walk walked = record {
   there = λ c' i below from_in high. elim (cases_lt c' c) [
-      | inl low ↦ walked.before _ (omega (arith, apart_rows (row + c') (row + c) places i from (omega (arith, low)) (omega (arith, high, fits)))) ∙ walk.there c' i low from_in high
-      | inr not ↦ (
-          let e : c ≡ c' = omega (arith, below, not) in
-          let f : from + (i - from) ≡ i = omega (arith, from_in) in
-          subst (λ (d : ℕ). slice_index new ((row + d) * places + i) ≡ after (step d i) 8 (slice_index old ((row + d) * places + i))) e
-          (subst (λ (j : ℕ). slice_index new ((row + c) * places + j) ≡ after (step c j) 8 (slice_index old ((row + c) * places + j))) f
-          (column_there row c places from count old mid new step fits walk walked (i - from) (omega (arith, from_in, high))))
-          )
-    ];
+    | inl low ↦ walked.before _ (omega (arith, apart_rows (row + c') (row + c) places i from (omega (arith, low)) (omega (arith, high, fits)))) ∙ walk.there c' i low from_in high
+    | inr not ↦ (
+        let e : c ≡ c' = omega (arith, below, not) in
+        let f : from + (i - from) ≡ i = omega (arith, from_in) in
+        subst (λ (d : ℕ). slice_index new ((row + d) * places + i) ≡ after (step d i) 8 (slice_index old ((row + d) * places + i))) e
+        (subst (λ (j : ℕ). slice_index new ((row + c) * places + j) ≡ after (step c j) 8 (slice_index old ((row + c) * places + j))) f
+        (column_there row c places from count old mid new step fits walk walked (i - from) (omega (arith, from_in, high))))
+        )
+  ];
   rest = λ j outside.
       let here : slice_index mid j ≡ slice_index old j = walk.rest j (λ c' i below from_in high. outside c' i (omega (arith, below)) from_in high) in
       elim (cases_lt j ((row + c) * places + from)) [
         | inl low ↦ walked.before j low ∙ here
         | inr high ↦ elim (cases_lt j ((row + c) * places + from + count)) [
-            | inl inside ↦ absurd (outside c (from + (j - ((row + c) * places + from))) (omega arith) (omega arith) (omega (arith, high, inside)) (omega (arith, high)))
-            | inr behind ↦ walked.behind j behind ∙ here
-          ]
+          | inl inside ↦ absurd (outside c (from + (j - ((row + c) * places + from))) (omega arith) (omega arith) (omega (arith, high, inside)) (omega (arith, high)))
+          | inr behind ↦ walked.behind j behind ∙ here
+        ]
       ];
 }
 
@@ -68,9 +68,9 @@ column_more row c places from count old mid new step fits walk walked = record {
 pub places_more : (row columns places from end : ℕ) (old mid new : List ℕ) (step : ℕ → ℕ → ℕ → ℕ → ℕ) → from ≤ end → end ≤ places → Walk row columns places 0 from old mid step → Walk row columns places from end mid new step → Walk row columns places 0 end old new step
 places_more row columns places from end old mid new step some fits first second = record {
   there = λ c i c_in _ high. elim (cases_lt i from) [
-      | inl low ↦ second.rest _ (λ c' j _ from_in end_in. other_place (row + c) (row + c') places i j (omega (arith, high, fits)) (omega (arith, end_in, fits)) (λ e. absurd (omega (arith, e, low, from_in)))) ∙ first.there c i c_in (omega arith) low
-      | inr not ↦ second.there c i c_in (omega (arith, not)) high ∙ ap (after (step c i) 8) (first.rest _ (λ c' j _ _ below. other_place (row + c) (row + c') places i j (omega (arith, high, fits)) (omega (arith, below, some, fits)) (λ e. absurd (omega (arith, e, not, below)))))
-    ];
+    | inl low ↦ second.rest _ (λ c' j _ from_in end_in. other_place (row + c) (row + c') places i j (omega (arith, high, fits)) (omega (arith, end_in, fits)) (λ e. absurd (omega (arith, e, low, from_in)))) ∙ first.there c i c_in (omega arith) low
+    | inr not ↦ second.there c i c_in (omega (arith, not)) high ∙ ap (after (step c i) 8) (first.rest _ (λ c' j _ _ below. other_place (row + c) (row + c') places i j (omega (arith, high, fits)) (omega (arith, below, some, fits)) (λ e. absurd (omega (arith, e, not, below)))))
+  ];
   rest = λ j outside. second.rest j (λ c i c_in from_in high. outside c i c_in (omega arith) high) ∙ first.rest j (λ c i c_in low high. outside c i c_in low (omega (arith, high, some)));
 }
 

@@ -1,5 +1,5 @@
--- How the numbers of cells lie in one list: plane after plane, each plane's in columns, where a column has a number for each place. What the numbers of a cell are is a parameter here: `within n` says that numbers may be those of n rows, `holds rows` that they are those of these rows, and `step c row n` is what a row makes of number c of a cell.
-use Rattle.std.specs.Prelude.{◌≡◌, ℕ, zero, suc, ◌+◌, ◌*◌, ◌<◌, ◌≤◌, List, [], ◌∷◌, ◌++◌, length, map, slice_index}
+-- How the numbers of cells lie in one list: plane after plane, each plane's in columns, where a column has a number for each place. What the numbers of a cell are is a parameter here: `step c row n` is what a row makes of number c of a cell.
+use Rattle.std.specs.Prelude.{ℕ, zero, suc, ◌+◌, ◌*◌, List, length, map, slice_index}
 use Rattle.mls_model.specs.Numbers.{below}
 use Rattle.mls_field.specs.Gathered.{waiting_row}
 
@@ -18,8 +18,3 @@ with_rows step row (suc g) cell = with_row step (row g) (with_rows step row g ce
 -- the numbers of a cell with the rows that wait
 abbrev pub whole_cell : (ℕ → List ℕ → ℕ → ℕ) → ℕ → ℕ → List ℕ → ℕ → List ℕ → ℕ → ℕ → ℕ → List ℕ
 whole_cell step size places numbers n samples waiting plane place = with_rows step (waiting_row n places samples plane place) waiting (cell_of size places numbers plane place)
-
--- what adding a row does to a cell's numbers
-pub record AddsRow (within : ℕ → List ℕ → Type 0) (holds : List ℕ → List (List ℕ) → Type 0) (old new row : List ℕ) : Type 0 where
-  pub range : (n : ℕ) → within n old → within (n + 1) new
-  pub adds : (rows : List (List ℕ)) → holds old rows → holds new (rows ++ row ∷ [])

@@ -1,5 +1,5 @@
 -- The sums that are kept of a cell: for each the column that it stands in, and what a row adds to it.
-use Rattle.std.specs.Prelude.{ℕ, zero, suc, ◌+◌, ◌-◌, ◌*◌, ◌/◌, ◌%◌, ◌<◌, ⊤, List, slice_index, cond, nat_lt}
+use Rattle.std.specs.Prelude.{ℕ, zero, suc, ◌+◌, ◌-◌, ◌*◌, ◌/◌, ◌%◌, ◌<◌, ⊤, List, cond, nat_lt}
 use Rattle.mls_model.specs.CellSums.{sample}
 use Rattle.mls_power.specs.ColumnSteps.{cube_of, fourth_of, low_half, high_half}
 use Rattle.mls_field.specs.declared.columns.Column.{Column}

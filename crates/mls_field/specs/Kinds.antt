@@ -1,6 +1,6 @@
 -- The three kinds of numbers that are kept of a cell's rows: when numbers may be those of n rows, and when they are those of given rows.
 use Rattle.std.specs.Prelude.{◌≡◌, ℕ, ◌+◌, ◌*◌, ◌^◌, ◌≤◌, List, sum_by, slice_index}
-use Rattle.mls_model.specs.CellSums.{place_a, place_b, place_aa, place_bb, sum_of}
+use Rattle.mls_model.specs.CellSums.{place_a, place_b, place_aa, place_bb}
 use Rattle.mls_power.specs.Extremes.{least_in, greatest_in, HoldsExtrema}
 use Rattle.mls_power.specs.NumbersAbove.{HoldsAbove}
 use Rattle.mls_power.specs.Rules.{AreExtrema, AreNumbersAbove}

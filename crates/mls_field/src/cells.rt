@@ -30,10 +30,13 @@ fn addend(column: Column, parameters: u32, samples: &[u16], at: usize, places: u
 {
     match column {
         Column::Samples { x } => samples[at + x * places] as u64,
-        Column::Products { x, y } => samples[at + x * places] as u64 * samples[at + y * places] as u64,
+        Column::Products { x, y } => samples[at + x * places] as u64
+            * samples[at + y * places] as u64,
         Column::Cubes { x } => cube(samples[at + x * places]),
-        Column::LowFourths => low_half(fourth(samples[at])) + low_half(fourth(samples[at + places])),
-        Column::HighFourths => high_half(fourth(samples[at])) + high_half(fourth(samples[at + places])),
+        Column::LowFourths => low_half(fourth(samples[at]))
+            + low_half(fourth(samples[at + places])),
+        Column::HighFourths => high_half(fourth(samples[at]))
+            + high_half(fourth(samples[at + places])),
     }
 }
 
@@ -52,7 +55,15 @@ fn add_row(sums: &mut [u64], parameters: u32, samples: &[u16], at: usize, places
 }
 
 /// Adds the rows that wait for a cell to its sums.
-pub(crate) fn add_rows_to_sums(sums: &mut [u64], parameters: u32, samples: &[u16], start: usize, places: usize, place: usize, waiting: u32)
+pub(crate) fn add_rows_to_sums(
+    sums: &mut [u64],
+    parameters: u32,
+    samples: &[u16],
+    start: usize,
+    places: usize,
+    place: usize,
+    waiting: u32,
+)
     requires few { parameters ≤ 16 }
     requires size { sums_size parameters ≤ length sums.old }
     requires waiting { waiting ≤ 7 }
@@ -64,12 +75,26 @@ pub(crate) fn add_rows_to_sums(sums: &mut [u64], parameters: u32, samples: &[u16
 {
     let stride = (parameters as usize + 2) * places;
     for g in 0..waiting {
-        add_row(sums, parameters, samples, g as usize * stride + start + place, places);
+        add_row(
+            sums,
+            parameters,
+            samples,
+            g as usize * stride + start + place,
+            places,
+        );
     }
 }
 
 /// Adds the rows that wait for a cell to its least and greatest samples.
-pub(crate) fn add_rows_to_ends(ends: &mut [u16], parameters: u32, samples: &[u16], start: usize, places: usize, place: usize, waiting: u32)
+pub(crate) fn add_rows_to_ends(
+    ends: &mut [u16],
+    parameters: u32,
+    samples: &[u16],
+    start: usize,
+    places: usize,
+    place: usize,
+    waiting: u32,
+)
     requires few { parameters ≤ 16 }
     requires size { length ends.old ≡ 2 }
     requires waiting { waiting ≤ 7 }
@@ -105,7 +130,15 @@ fn add_pair_to_numbers(numbers: &mut [u32], shape: &Shape, a: u16, b: u16)
 }
 
 /// Adds the rows that wait for a cell to its numbers above thresholds.
-pub(crate) fn add_rows_to_numbers(numbers: &mut [u32], shape: &Shape, samples: &[u16], start: usize, places: usize, place: usize, waiting: u32)
+pub(crate) fn add_rows_to_numbers(
+    numbers: &mut [u32],
+    shape: &Shape,
+    samples: &[u16],
+    start: usize,
+    places: usize,
+    place: usize,
+    waiting: u32,
+)
     requires size { length shape.now.thresholds ≤ length numbers.old }
     requires waiting { waiting ≤ 7 }
     requires place { place < places }
@@ -121,7 +154,13 @@ pub(crate) fn add_rows_to_numbers(numbers: &mut [u32], shape: &Shape, samples: &
 }
 
 /// The sums of a cell as they stand in their columns, in the front of an array.
-pub(crate) fn read_sums(words: &[u64], row: usize, size: usize, places: usize, place: usize) -> [u64; MOST_SUMS]
+pub(crate) fn read_sums(
+    words: &[u64],
+    row: usize,
+    size: usize,
+    places: usize,
+    place: usize,
+) -> [u64; MOST_SUMS]
     requires size { size ≤ 72 }
     requires place { place < places }
     requires row { row + size < 2 ^ 63 }
@@ -136,7 +175,12 @@ pub(crate) fn read_sums(words: &[u64], row: usize, size: usize, places: usize, p
 }
 
 /// The least and the greatest sample of a cell as they stand in their columns.
-pub(crate) fn read_ends(ends: &[u16], row: usize, places: usize, place: usize) -> [u16; EXTREMA_NUMBERS]
+pub(crate) fn read_ends(
+    ends: &[u16],
+    row: usize,
+    places: usize,
+    place: usize,
+) -> [u16; EXTREMA_NUMBERS]
     requires place { place < places }
     requires row { row + 2 < 2 ^ 63 }
     requires ends { (row + 2) * places ≤ length ends.now }
@@ -147,7 +191,13 @@ pub(crate) fn read_ends(ends: &[u16], row: usize, places: usize, place: usize) -
 }
 
 /// The numbers of a cell above thresholds as they stand in their columns, in the front of an array.
-pub(crate) fn read_numbers(numbers: &[u32], row: usize, size: usize, places: usize, place: usize) -> [u32; MOST_THRESHOLDS]
+pub(crate) fn read_numbers(
+    numbers: &[u32],
+    row: usize,
+    size: usize,
+    places: usize,
+    place: usize,
+) -> [u32; MOST_THRESHOLDS]
     requires size { size ≤ 8 }
     requires place { place < places }
     requires row { row + size < 2 ^ 63 }
@@ -176,5 +226,11 @@ pub(crate) fn power_of(sums: &[u64], parameters: u32, rows: u32) -> Power
     let at = 4 + 4 * parameters as usize;
     let third = sums[at] as u128 + sums[at + 1] as u128;
     let fourth = sums[at + 2] as u128 + 4294967296 * sums[at + 3] as u128;
-    Power::from_sums(2 * rows, sums[0] + sums[1], sums[2] + sums[3], third, fourth)
+    Power::from_sums(
+        2 * rows,
+        sums[0] + sums[1],
+        sums[2] + sums[3],
+        third,
+        fourth,
+    )
 }

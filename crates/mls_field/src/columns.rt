@@ -7,8 +7,8 @@ ghost use Rattle.mls_field.specs.OutputSteps.{ends_step, numbers_step};
 ghost use Rattle.mls_field.specs.Gathered.{row_behind};
 ghost use Rattle.mls_field.specs.Walk.{Walk};
 
-use mls_cov::columns::{add_products, add_samples};
 use mls_base::shape::Shape;
+use mls_cov::columns::{add_products, add_samples};
 use mls_power::columns::{add_cubes, add_high, add_low, count_above, take_greatest, take_least};
 
 /// What the sums of a column are of.
@@ -126,12 +126,28 @@ fn add_to_columns(
     for c in 0..8 + 4 * parameters as usize {
         let column = column_of(parameters, c);
         let at = (row + c) * places + from;
-        add_to_column(words, at, count, column, parameters, samples, start + from, places);
+        add_to_column(
+            words,
+            at,
+            count,
+            column,
+            parameters,
+            samples,
+            start + from,
+            places,
+        );
     }
 }
 
 /// Adds eight rows to all columns at all places.
-pub(crate) fn add_to_sums(words: &mut [u64], row: usize, places: usize, parameters: u32, samples: &[u16], start: usize)
+pub(crate) fn add_to_sums(
+    words: &mut [u64],
+    row: usize,
+    places: usize,
+    parameters: u32,
+    samples: &[u16],
+    start: usize,
+)
     requires few { parameters ≤ 16 }
     requires row { row + sums_size parameters < 2 ^ 63 }
     requires words { (row + sums_size parameters) * places ≤ length words.old }
@@ -148,7 +164,14 @@ pub(crate) fn add_to_sums(words: &mut [u64], row: usize, places: usize, paramete
 }
 
 /// Takes the least and the greatest of the samples A and B of eight rows into two columns.
-pub(crate) fn add_to_ends(ends: &mut [u16], row: usize, places: usize, parameters: u32, samples: &[u16], start: usize)
+pub(crate) fn add_to_ends(
+    ends: &mut [u16],
+    row: usize,
+    places: usize,
+    parameters: u32,
+    samples: &[u16],
+    start: usize,
+)
     requires few { parameters ≤ 16 }
     requires row { row + 2 < 2 ^ 63 }
     requires ends { (row + 2) * places ≤ length ends.old }
@@ -163,7 +186,14 @@ pub(crate) fn add_to_ends(ends: &mut [u16], row: usize, places: usize, parameter
 }
 
 /// Counts the samples A and B of eight rows above each threshold, in a column for each.
-pub(crate) fn add_to_numbers(numbers: &mut [u32], row: usize, places: usize, shape: &Shape, samples: &[u16], start: usize)
+pub(crate) fn add_to_numbers(
+    numbers: &mut [u32],
+    row: usize,
+    places: usize,
+    shape: &Shape,
+    samples: &[u16],
+    start: usize,
+)
     requires row { row + length shape.now.thresholds < 2 ^ 63 }
     requires numbers { (row + length shape.now.thresholds) * places ≤ length numbers.old }
     requires samples { start + (shape.now.parameters + 2) * places * 8 ≤ length samples.now }
@@ -174,6 +204,15 @@ pub(crate) fn add_to_numbers(numbers: &mut [u32], row: usize, places: usize, sha
     let b = start + places;
     for c in 0..shape.thresholds() {
         let at = (row + c as usize) * places;
-        count_above(numbers, at, places, samples, start, b, stride, shape.threshold(c));
+        count_above(
+            numbers,
+            at,
+            places,
+            samples,
+            start,
+            b,
+            stride,
+            shape.threshold(c),
+        );
     }
 }

@@ -135,7 +135,12 @@ impl Field {
         let stride = (self.shape.parameters() as usize + 2) * self.places as usize;
         let waiting = self.waiting[plane];
         let start = self.first_sample(step) + waiting as usize * stride;
-        gather(self.samples.as_mut_slice(), start, self.shape.signed(), rows);
+        gather(
+            self.samples.as_mut_slice(),
+            start,
+            self.shape.signed(),
+            rows,
+        );
         self.counts[plane] += 1;
         self.waiting[plane] = waiting + 1;
     }
@@ -158,13 +163,39 @@ impl Field {
         let parameters = shape.parameters();
         let stride = (parameters as usize + 2) * places;
         let start = plane * (GROUPS * stride);
-        gather(self.samples.as_mut_slice(), start + 7 * stride, shape.signed(), rows);
+        gather(
+            self.samples.as_mut_slice(),
+            start + 7 * stride,
+            shape.signed(),
+            rows,
+        );
         let samples = self.samples.as_slice();
         let row = plane * (8 + 4 * parameters as usize);
-        add_to_sums(self.sums.as_mut_slice(), row, places, parameters, samples, start);
-        add_to_ends(self.ends.as_mut_slice(), plane * EXTREMA_NUMBERS, places, parameters, samples, start);
+        add_to_sums(
+            self.sums.as_mut_slice(),
+            row,
+            places,
+            parameters,
+            samples,
+            start,
+        );
+        add_to_ends(
+            self.ends.as_mut_slice(),
+            plane * EXTREMA_NUMBERS,
+            places,
+            parameters,
+            samples,
+            start,
+        );
         let row = plane * shape.thresholds() as usize;
-        add_to_numbers(self.numbers.as_mut_slice(), row, places, &shape, samples, start);
+        add_to_numbers(
+            self.numbers.as_mut_slice(),
+            row,
+            places,
+            &shape,
+            samples,
+            start,
+        );
         self.counts[plane] += 1;
         self.waiting[plane] = 0;
     }
@@ -214,8 +245,16 @@ impl Field {
         let start = self.first_sample(step);
         let waiting = self.waiting_rows(step);
         let samples = self.samples.as_slice();
-        let mut sums = read_sums(self.sums.as_slice(), step as usize * size, size, places, place);
-        add_rows_to_sums(&mut sums, parameters, samples, start, places, place, waiting);
+        let mut sums = read_sums(
+            self.sums.as_slice(),
+            step as usize * size,
+            size,
+            places,
+            place,
+        );
+        add_rows_to_sums(
+            &mut sums, parameters, samples, start, places, place, waiting,
+        );
         sums
     }
 
@@ -233,7 +272,9 @@ impl Field {
         let samples = self.samples.as_slice();
         let row = step as usize * EXTREMA_NUMBERS;
         let mut ends = read_ends(self.ends.as_slice(), row, places, place);
-        add_rows_to_ends(&mut ends, parameters, samples, start, places, place, waiting);
+        add_rows_to_ends(
+            &mut ends, parameters, samples, start, places, place, waiting,
+        );
         ends
     }
 
@@ -251,7 +292,15 @@ impl Field {
         let samples = self.samples.as_slice();
         let row = step as usize * size;
         let mut numbers = read_numbers(self.numbers.as_slice(), row, size, places, place);
-        add_rows_to_numbers(&mut numbers, &self.shape, samples, start, places, place, waiting);
+        add_rows_to_numbers(
+            &mut numbers,
+            &self.shape,
+            samples,
+            start,
+            places,
+            place,
+            waiting,
+        );
         numbers
     }
 

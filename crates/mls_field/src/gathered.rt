@@ -1,14 +1,9 @@
-//! Rows that wait to be added: how they are put there, and how one is added to the numbers of a single cell.
+//! Rows that wait to be added, and how they are put there.
 
-ghost use Rattle.std.specs.Prelude.{◌≡◌, ℕ, ◌+◌, ◌*◌, ◌^◌, ◌<◌, ◌≤◌, length, slice_index};
+ghost use Rattle.std.specs.Prelude.{◌≡◌, ℕ, ◌+◌, ◌*◌, ◌<◌, ◌≤◌, length, slice_index};
 ghost use Rattle.mls_model.specs.Samples.{shifted};
-ghost use Rattle.mls_field.specs.ColumnSums.{sums_size, of_column, sums_step, IsWithin};
-ghost use Rattle.mls_field.specs.Gathered.{row_behind};
-ghost use Rattle.mls_field.specs.OutputSteps.{ends_step, numbers_step};
 
-use crate::columns::{Column, column_of};
 use mls_base::rows::Rows;
-use mls_base::shape::Shape;
 
 /// The shifted value of a sample.
 fn shifted_value(signed: bool, sample: u16) -> u16

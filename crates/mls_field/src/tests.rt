@@ -176,12 +176,27 @@ fn nine_groups_of_two_cells(rt: HostRuntime) -> Result<(), NoMemory> {
     add_nine_times(&mut field, &shape, &block);
     let none = wanted(0, 0, 0, 0, 0, 0);
     assert_eq!(rt; look(&field, &shape, 0, 0), none);
-    assert_eq!(rt; look(&field, &shape, 1, 0), wanted(9, 36, 90, 252, 738, 324));
-    assert_eq!(rt; look(&field, &shape, 1, 1), wanted(9, 54, 180, 648, 2448, 324));
-    assert_eq!(rt; look_further(&field, &shape, 1, 0), wanted_further(1, 3, (9, 0)));
-    assert_eq!(rt; look_further(&field, &shape, 1, 1), wanted_further(2, 4, (18, 9)));
+    assert_eq!(rt;
+        look(&field, &shape, 1, 0),
+        wanted(9, 36, 90, 252, 738, 324)
+    );
+    assert_eq!(rt;
+        look(&field, &shape, 1, 1),
+        wanted(9, 54, 180, 648, 2448, 324)
+    );
+    assert_eq!(rt;
+        look_further(&field, &shape, 1, 0),
+        wanted_further(1, 3, (9, 0))
+    );
+    assert_eq!(rt;
+        look_further(&field, &shape, 1, 1),
+        wanted_further(2, 4, (18, 9))
+    );
     field.reset();
     assert_eq!(rt; look(&field, &shape, 1, 1), none);
-    assert_eq!(rt; look_further(&field, &shape, 1, 1), wanted_further(65535, 0, (0, 0)));
+    assert_eq!(rt;
+        look_further(&field, &shape, 1, 1),
+        wanted_further(65535, 0, (0, 0))
+    );
     Ok(())
 }

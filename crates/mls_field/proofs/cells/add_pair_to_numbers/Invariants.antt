@@ -1,4 +1,4 @@
-use Rattle.std.proofs.Common.{◌≡◌, ℕ, ◌+◌, ◌≤◌, List, slice_index}
+use Rattle.std.proofs.Common.{◌≡◌, ℕ, ◌≤◌, List, slice_index}
 use Rattle.mls_field.specs.OutputSteps.{numbers_step}
 use Rattle.mls_field.specs.OneCell.{Stepped}
 use Rattle.mls_field.proofs.cells.add_pair_to_numbers.Given as goal

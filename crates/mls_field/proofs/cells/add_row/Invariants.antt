@@ -1,4 +1,4 @@
-use Rattle.std.proofs.Common.{◌≡◌, ℕ, ◌+◌, ◌≤◌, List, length, slice_index}
+use Rattle.std.proofs.Common.{◌≡◌, ℕ, ◌+◌, ◌≤◌, List, slice_index}
 use Rattle.mls_field.specs.ColumnSums.{sums_step}
 use Rattle.mls_field.specs.OneCell.{IsRowAt, Stepped}
 use Rattle.mls_field.proofs.cells.add_row.Given as goal

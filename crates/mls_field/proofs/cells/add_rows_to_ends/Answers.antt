@@ -1,4 +1,4 @@
-use Rattle.std.proofs.Common.{◌≡◌, ℕ, ◌+◌, ◌*◌, ◌<◌, slice_index, ap, ◌∙◌, arith}
+use Rattle.std.proofs.Common.{◌+◌, arith}
 use Rattle.mls_field.specs.OutputSteps.{ends_step}
 use Rattle.mls_field.specs.Gathered.{row_behind}
 use Rattle.mls_field.proofs.Fronts.{first_at, second_at, front_more, none_same}

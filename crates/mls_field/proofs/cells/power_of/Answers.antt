@@ -1,6 +1,5 @@
-use Rattle.std.proofs.Common.{◌≡◌, ℕ, ◌+◌, ◌*◌, ◌≤◌, slice_index, arith}
+use Rattle.std.proofs.Common.{ℕ, ◌+◌, ◌*◌, ◌≤◌, slice_index, arith}
 use Rattle.mls_cov.proofs.Squares.{twice_product}
-use Rattle.mls_power.specs.Rules.{AreSums}
 use Rattle.mls_field.proofs.cells.power_of.Goals as goal
 
 -- the square of a sum of two sums is at most twice the rows times the sum of their squares

@@ -1,4 +1,4 @@
-use Rattle.std.proofs.Common.{◌≡◌, ℕ, ◌+◌, ◌*◌, ◌<◌, List, slice_index, ap, ◌∙◌, sym, subst, arith}
+use Rattle.std.proofs.Common.{◌≡◌, ℕ, ◌+◌, ◌*◌, ◌<◌, ap, ◌∙◌, sym, subst, arith}
 use Rattle.mls_model.specs.CellSums.{sample}
 use Rattle.mls_power.specs.ColumnSteps.{sample_at, cube_of, fourth_of, low_half, high_half}
 use Rattle.mls_field.specs.ColumnSums.{of_column, IsWithin}

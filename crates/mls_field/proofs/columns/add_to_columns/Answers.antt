@@ -1,4 +1,4 @@
-use Rattle.std.proofs.Common.{◌≡◌, ℕ, ◌+◌, ◌*◌, ◌<◌, ◌≤◌, List, length, slice_index, ap, ◌∙◌, sym, subst, arith}
+use Rattle.std.proofs.Common.{◌≡◌, ℕ, ◌+◌, ◌*◌, ◌≤◌, List, slice_index, ap, ◌∙◌, sym, subst, arith}
 use Rattle.mls_field.specs.ColumnSums.{sums_size, sums_step, column_at, of_column, most_before}
 use Rattle.mls_field.specs.Gathered.{row_behind}
 use Rattle.mls_field.specs.Walk.{Walk}

@@ -1,4 +1,4 @@
-use Rattle.std.proofs.Common.{ℕ, ◌+◌}
+use Rattle.std.proofs.Common.{◌+◌}
 use Rattle.mls_field.specs.ColumnSums.{sums_step}
 use Rattle.mls_field.specs.Gathered.{row_behind}
 use Rattle.mls_field.specs.Walk.{Walk}

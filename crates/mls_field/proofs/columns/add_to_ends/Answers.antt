@@ -1,4 +1,4 @@
-use Rattle.std.proofs.Common.{◌≡◌, ℕ, ◌+◌, ◌*◌, ◌<◌, ◌≤◌, List, length, slice_index, min, max, ap, ◌∙◌, sym, arith}
+use Rattle.std.proofs.Common.{ℕ, ◌+◌, ◌*◌, min, max, ap, ◌∙◌, arith}
 use Rattle.mls_model.specs.CellSums.{sample}
 use Rattle.mls_power.specs.ColumnSteps.{sample_at}
 use Rattle.mls_field.specs.OutputSteps.{ends_step}

@@ -1,4 +1,4 @@
-use Rattle.std.proofs.Common.{◌≡◌, ℕ, ◌+◌, ◌*◌, ◌<◌, ◌≤◌, List, length, slice_index, ap, ◌∙◌, sym, subst, arith}
+use Rattle.std.proofs.Common.{◌≡◌, ℕ, ◌+◌, ◌*◌, ◌≤◌, length, slice_index, ap, ◌∙◌, sym, subst, arith}
 use Rattle.mls_model.specs.CellSums.{sample}
 use Rattle.mls_power.specs.ColumnSteps.{sample_at, one_above}
 use Rattle.mls_field.specs.OutputSteps.{numbers_step}

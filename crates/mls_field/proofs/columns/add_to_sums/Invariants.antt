@@ -1,4 +1,4 @@
-use Rattle.std.proofs.Common.{ℕ, ◌≡◌, ◌+◌, ◌-◌, ◌≤◌, length}
+use Rattle.std.proofs.Common.{◌≡◌, ◌+◌, ◌-◌, ◌≤◌, length}
 use Rattle.mls_field.specs.ColumnSums.{sums_size, sums_step}
 use Rattle.mls_field.specs.Gathered.{row_behind}
 use Rattle.mls_field.specs.Walk.{Walk}

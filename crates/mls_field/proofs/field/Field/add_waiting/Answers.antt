@@ -1,18 +1,16 @@
-use Rattle.std.proofs.Common.{◌≡◌, ◌≢◌, ℕ, ◌+◌, ◌-◌, ◌*◌, ◌<◌, ◌≤◌, Bool, List, ◌++◌, length, take, drop, get_or, set, ap, ◌∙◌, sym, subst, arith}
+use Rattle.std.proofs.Common.{◌≡◌, ℕ, ◌+◌, ◌*◌, ◌<◌, ◌≤◌, List, ◌++◌, length, take, drop, get_or, set, ap, ◌∙◌, sym, subst, arith}
 use Rattle.std.proofs.lemmas.List.{get_or_read}
 use Rattle.mls_model.specs.Studies.{planes}
 use Rattle.mls_model.specs.Standing.{with_block}
 use Rattle.mls_field.specs.ColumnSums.{sums_size, sums_step, column_at, most_before}
 use Rattle.mls_field.specs.OutputSteps.{ends_step, numbers_step}
-use Rattle.mls_field.specs.Fields.{IsField, HoldsTable, added_of}
+use Rattle.mls_field.specs.Fields.{HoldsTable}
 use Rattle.mls_field.specs.Gathered.{waiting_row, row_behind}
 use Rattle.mls_field.specs.ShiftedRows.{shifted_row}
 use Rattle.mls_field.specs.Walk.{Walk}
 use Rattle.mls_field.proofs.Grid.{plane_before}
 use Rattle.mls_field.proofs.InPlace.{spliced, long_as_before}
 use Rattle.mls_field.proofs.Growing.{IsGathered, gathered_block, row_fits}
-use Rattle.mls_field.proofs.Rooms.{sum_small, before_eight}
-use Rattle.mls_field.proofs.WholeCells.{entry-cell}
 use Rattle.mls_field.proofs.Added.{field_settled, table_settled, waits_after, room_for_sums, room_for_numbers}
 use Rattle.mls_field.proofs.field.Field.add_waiting.Given.{Over}
 use Rattle.mls_field.proofs.field.Field.add_waiting.Goals as goal
@@ -22,8 +20,10 @@ pub gather-requires : goal.gather-requires
 gather-requires g c =
     let f = c.args.self.now in
     let fits = row_fits (f.shape.parameters + 2) f.places c.args.step 7 (planes f.shape) c.requires.plane_in (omega arith) in
-    record { size =
-        rw (c.parameters-parameters.ensures.value, c.requires.rows, c.requires.cells ∙ sym f.kept.block_width) (omega (arith, fits, f.kept.room, ap length c.as_mut_slice.ensures.value)) }
+    record {
+      size =
+          rw (c.parameters-parameters.ensures.value, c.requires.rows, c.requires.cells ∙ sym f.kept.block_width) (omega (arith, fits, f.kept.room, ap length c.as_mut_slice.ensures.value));
+    }
 
 -- the columns of a plane lie within those of all planes
 columns_fit : (size places plane count bound : ℕ) → plane < count → bound ≡ count * size * places → (plane * size + size) * places ≤ bound

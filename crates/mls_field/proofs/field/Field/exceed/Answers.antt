@@ -1,4 +1,4 @@
-use Rattle.std.proofs.Common.{◌≡◌, ℕ, ◌+◌, ◌*◌, ◌<◌, ◌≤◌, List, length, take, slice_index, ap, ◌∙◌, sym, subst, arith}
+use Rattle.std.proofs.Common.{◌≡◌, ℕ, ◌*◌, ◌≤◌, List, length, take, slice_index, ap, ◌∙◌, sym, subst, arith}
 use Rattle.mls_power.specs.Rules.{AreNumbersAbove}
 use Rattle.mls_field.specs.Kept.{numbers_in_cell, sums_at, HasNumbers}
 use Rattle.mls_field.proofs.Kept.{exceed_stands, numbers_long}

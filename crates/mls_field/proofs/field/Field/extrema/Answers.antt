@@ -1,4 +1,4 @@
-use Rattle.std.proofs.Common.{◌≡◌, ℕ, ◌<◌, ◌∙◌, arith}
+use Rattle.std.proofs.Common.{◌∙◌, arith}
 use Rattle.mls_field.specs.Kept.{sums_at, HasEnds}
 use Rattle.mls_field.proofs.Kept.{extrema_stand}
 use Rattle.mls_field.proofs.Rows.{outputs_are}

@@ -1,11 +1,8 @@
-use Rattle.std.proofs.Common.{◌≡◌, ◌≢◌, ℕ, ◌+◌, ◌-◌, ◌*◌, ◌<◌, ◌≤◌, Bool, List, ◌++◌, length, take, drop, get_or, set, ap, ◌∙◌, sym, subst, arith}
+use Rattle.std.proofs.Common.{◌≡◌, ℕ, ◌+◌, ◌*◌, ◌<◌, ◌≤◌, List, ◌++◌, length, take, drop, get_or, set, ap, ◌∙◌, sym, subst, arith}
 use Rattle.std.proofs.lemmas.Grind.{get_or_default_zero}
 use Rattle.std.proofs.lemmas.List.{get_or_read}
-use Rattle.mls_model.specs.Studies.{planes}
 use Rattle.mls_model.specs.Standing.{with_block}
-use Rattle.mls_model.specs.Blocks.{block, width}
-use Rattle.mls_field.specs.Fields.{IsField, HoldsTable}
-use Rattle.mls_field.specs.Gathered.{plane_start}
+use Rattle.mls_field.specs.Fields.{HoldsTable}
 use Rattle.mls_field.specs.ShiftedRows.{shifted_row}
 use Rattle.mls_field.proofs.InPlace.{spliced}
 use Rattle.mls_field.proofs.Grid.{plane_before}
@@ -23,8 +20,10 @@ gather-requires g c =
     let f = c.args.self.now in
     let few : c.index-waiting.result.now < 8 = omega (arith, waits g (goal.at.gather-requires g c).After-index-waiting, c.requires.waiting) in
     let fits = plane_before c.index-waiting.result.now 8 ((f.shape.parameters + 2) * f.places) few in
-    record { size =
-        rw (c.parameters.ensures.value, c.requires.rows, c.requires.cells ∙ sym f.kept.block_width) (omega (arith, fits, c.first_sample.ensures.fits, ap length c.as_mut_slice.ensures.value)) }
+    record {
+      size =
+          rw (c.parameters.ensures.value, c.requires.rows, c.requires.cells ∙ sym f.kept.block_width) (omega (arith, fits, c.first_sample.ensures.fits, ap length c.as_mut_slice.ensures.value));
+    }
 
 -- the samples after the call
 gathered : (g : Over) (c : After-gather g) → let f = c.args.self.now in IsGathered (f.shape.parameters + 2) f.places c.args.step c.index-waiting.result.now f.shape.signed (g.R.Rows.sample c.args.rows.now) f.samples.items (take f.samples.len (c.gather.new.samples ++ drop (length c.gather.new.samples) f.samples.items))

@@ -1,4 +1,4 @@
-use Rattle.std.proofs.Common.{◌≡◌, ℕ, ◌+◌, ◌*◌, ◌<◌, slice_index, ap, ◌∙◌, sym, subst, arith}
+use Rattle.std.proofs.Common.{ℕ, ◌+◌, ◌*◌, ◌∙◌, sym, subst, arith}
 use Rattle.std.proofs.lemmas.List.{get_or-take}
 use Rattle.mls_cov.specs.Rules.{KeepsRules}
 use Rattle.mls_cov.specs.Sums.{HoldsSums}

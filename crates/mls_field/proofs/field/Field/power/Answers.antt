@@ -1,4 +1,4 @@
-use Rattle.std.proofs.Common.{◌≡◌, ℕ, ◌+◌, ◌*◌, ◌<◌, ap, ◌∙◌, sym, subst, arith}
+use Rattle.std.proofs.Common.{ℕ, ◌*◌, ap, ◌∙◌, sym, subst}
 use Rattle.mls_field.specs.Kinds.{SumsWithin, third_of, fourth_of}
 use Rattle.mls_field.specs.Kept.{sums_in_cell, sums_at, HasPowers}
 use Rattle.mls_field.proofs.Kept.{power_stands}

@@ -1,4 +1,4 @@
-use Rattle.std.proofs.Common.{◌≡◌, ℕ, ◌+◌, ◌*◌, ◌<◌, ◌≤◌, List, length, ap, ◌∙◌, subst, arith}
+use Rattle.std.proofs.Common.{ℕ, ◌+◌, List, length, ap, ◌∙◌, subst, arith}
 use Rattle.mls_model.specs.Studies.{planes}
 use Rattle.mls_field.specs.Cells.{cell_of, with_rows}
 use Rattle.mls_field.specs.OutputSteps.{ends_step}

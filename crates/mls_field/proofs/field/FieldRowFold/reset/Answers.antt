@@ -1,4 +1,4 @@
-use Rattle.std.proofs.Common.{◌≡◌, ℕ, ◌+◌, ◌*◌, ◌≤◌, List, ◌++◌, length, take, drop, ap, ◌∙◌, arith}
+use Rattle.std.proofs.Common.{ℕ, ◌*◌, List, ◌++◌, length, take, drop, ap, ◌∙◌, arith}
 use Rattle.mls_model.specs.Studies.{planes}
 use Rattle.mls_field.specs.ColumnSums.{sums_size}
 use Rattle.mls_field.proofs.InPlace.{filled, replaced}
