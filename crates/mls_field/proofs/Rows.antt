@@ -1,5 +1,5 @@
 -- Rows of shifted values, and the samples A and B of rows.
-use Rattle.std.proofs.Common.{◌≡◌, ℕ, zero, suc, ◌+◌, ◌*◌, ◌<◌, List, [], ◌∷◌, ◌++◌, length, map, get_or, slice_index, Bool, ℤ, append_assoc, ap, ◌∙◌, refl, sym, inl, inr, arith}
+use Rattle.std.proofs.Common.{◌≡◌, ℕ, zero, suc, ◌+◌, ◌*◌, ◌<◌, List, [], ◌∷◌, ◌++◌, length, map, get_or, Bool, ℤ, append_assoc, ap, ◌∙◌, refl, sym, inl, inr, arith}
 use Rattle.std.specs.List.{AllByRecursion}
 use Rattle.std.proofs.lemmas.List.{map-append, length-map, length-append, get_or_at, get_or_append_left}
 use Rattle.std.proofs.lemmas.List.Concat.{flat_map-append}
@@ -7,16 +7,16 @@ use Rattle.std.proofs.lemmas.Bool.{cases_lt}
 use Rattle.mls_model.specs.Numbers.{below}
 use Rattle.mls_model.specs.Samples.{shifted, unshifted}
 use Rattle.mls_model.specs.Statistics.{outputs}
-use Rattle.mls_field.specs.ShiftedRows.{shifted_row, row_in, shifted_outputs}
+use Rattle.mls_field.specs.ShiftedRows.{shifted_row, shifted_outputs}
 
-length-below : (n : ℕ) → length (below n) ≡ n
+pub length-below : (n : ℕ) → length (below n) ≡ n
 length-below zero = refl
 length-below (suc n) = omega (arith, length-append (below n) (n ∷ []), length-below n)
 
 pub length-shifted_row : (signed : Bool) (n : ℕ) (sample : ℕ → ℕ → ℕ) (place : ℕ) → length (shifted_row signed n sample place) ≡ n
 length-shifted_row signed n sample place = length-map (below n) (λ row. shifted signed (sample row place)) ∙ length-below n
 
-entry_of : (f : ℕ → ℕ) (n i : ℕ) → i < n → get_or (map f (below n)) i 0 ≡ f i
+pub entry_of : (f : ℕ → ℕ) (n i : ℕ) → i < n → get_or (map f (below n)) i 0 ≡ f i
 entry_of f zero i h = absurd (omega arith)
 entry_of f (suc n) i h =
     let size : length (map f (below n)) ≡ n = length-map (below n) f ∙ length-below n in
@@ -29,21 +29,11 @@ entry_of f (suc n) i h =
 pub entry-shifted_row : (signed : Bool) (n : ℕ) (sample : ℕ → ℕ → ℕ) (place i : ℕ) → i < n → get_or (shifted_row signed n sample place) i 0 ≡ shifted signed (sample i place)
 entry-shifted_row signed n sample place i h = entry_of (λ row. shifted signed (sample row place)) n i h
 
-pub length-row_in : (n : ℕ) (samples : List ℕ) (place : ℕ) → length (row_in n samples place) ≡ n
-length-row_in n samples place = length-map (below n) (λ row. slice_index samples (place + 32 * row)) ∙ length-below n
-
-pub entry-row_in : (n : ℕ) (samples : List ℕ) (place i : ℕ) → i < n → get_or (row_in n samples place) i 0 ≡ slice_index samples (place + 32 * i)
-entry-row_in n samples place i h = entry_of (λ row. slice_index samples (place + 32 * row)) n i h
-
-same_entries : (f g : ℕ → ℕ) (n : ℕ) → ((i : ℕ) → i < n → f i ≡ g i) → map f (below n) ≡ map g (below n)
+pub same_entries : (f g : ℕ → ℕ) (n : ℕ) → ((i : ℕ) → i < n → f i ≡ g i) → map f (below n) ≡ map g (below n)
 same_entries f g zero h = refl
 same_entries f g (suc n) h =
     map-append f (below n) (n ∷ []) ∙
     (ap (λ (xs : List ℕ). xs ++ f n ∷ []) (same_entries f g n (λ i low. h i (omega arith))) ∙ (ap (λ (x : ℕ). map g (below n) ++ x ∷ []) (h n (omega arith)) ∙ sym (map-append g (below n) (n ∷ []))))
-
--- the row at a place of samples that were read
-pub row_read : (signed : Bool) (n : ℕ) (sample : ℕ → ℕ → ℕ) (samples : List ℕ) (k place : ℕ) → ((i : ℕ) → i < n → slice_index samples (k + 32 * i) ≡ shifted signed (sample i place)) → row_in n samples k ≡ shifted_row signed n sample place
-row_read signed n sample samples k place h = same_entries (λ row. slice_index samples (k + 32 * row)) (λ row. shifted signed (sample row place)) n h
 
 pub shifted_outputs_push : (rows : List (List ℕ)) (row : List ℕ) → shifted_outputs (rows ++ row ∷ []) ≡ shifted_outputs rows ++ get_or row 0 0 ∷ get_or row 1 0 ∷ []
 shifted_outputs_push rows row = flat_map-append (λ (r : List ℕ). get_or r 0 0 ∷ get_or r 1 0 ∷ []) rows (row ∷ [])

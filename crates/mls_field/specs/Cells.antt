@@ -1,23 +1,20 @@
--- How the sums of cells lie in one list of numbers: each cell has as many numbers, one cell's after the other's. What the numbers of a cell are is a parameter here: `within n` says that numbers may be those of n rows, and `holds rows` that they are those of these rows.
-use Rattle.std.specs.Prelude.{◌≡◌, ℕ, ◌+◌, ◌*◌, ◌<◌, ◌≤◌, List, [], ◌∷◌, ◌++◌, take, drop}
+-- How the numbers of cells lie in one list: plane after plane, each plane's in columns, where a column has a number for each place. What the numbers of a cell are is a parameter here: `step c row n` is what a row makes of number c of a cell.
+use Rattle.std.specs.Prelude.{ℕ, zero, suc, ◌+◌, ◌*◌, List, length, map, slice_index}
+use Rattle.mls_model.specs.Numbers.{below}
+use Rattle.mls_field.specs.Gathered.{waiting_row}
 
--- the numbers of a cell
-abbrev pub cell_of : ℕ → List ℕ → ℕ → List ℕ
-cell_of size numbers cell = take size (drop (size * cell) numbers)
+-- the numbers of the cell at a place of a plane
+abbrev pub cell_of : ℕ → ℕ → List ℕ → ℕ → ℕ → List ℕ
+cell_of size places numbers plane place = map (λ c. slice_index numbers ((plane * size + c) * places + place)) (below size)
 
--- what adding a row does to a cell's numbers
-pub record AddsRow (within : ℕ → List ℕ → Type 0) (holds : List ℕ → List (List ℕ) → Type 0) (old new row : List ℕ) : Type 0 where
-  pub range : (n : ℕ) → within n old → within (n + 1) new
-  pub adds : (rows : List (List ℕ)) → holds old rows → holds new (rows ++ row ∷ [])
+-- the numbers of a cell with a row more, and with so many rows more
+abbrev pub with_row : (ℕ → List ℕ → ℕ → ℕ) → List ℕ → List ℕ → List ℕ
+with_row step row cell = map (λ c. step c row (slice_index cell c)) (below (length cell))
 
--- Adding a row to each of so many cells from a first one on. The other cells stay.
-pub record AddsRows (within : ℕ → List ℕ → Type 0) (holds : List ℕ → List (List ℕ) → Type 0) (size : ℕ) (old new : List ℕ) (first count : ℕ) (row : ℕ → List ℕ) : Type 0 where
-  pub added : (k : ℕ) → k < count → AddsRow within holds (cell_of size old (first + k)) (cell_of size new (first + k)) (row k)
-  pub before : (cell : ℕ) → cell < first → cell_of size new cell ≡ cell_of size old cell
-  pub behind : (cell : ℕ) → first + count ≤ cell → cell_of size new cell ≡ cell_of size old cell
+unfoldable pub with_rows : (ℕ → List ℕ → ℕ → ℕ) → (ℕ → List ℕ) → ℕ → List ℕ → List ℕ
+with_rows step row zero cell = cell
+with_rows step row (suc g) cell = with_row step (row g) (with_rows step row g cell)
 
--- one more row can be added to a cell
-pub record HasRoom (within : ℕ → List ℕ → Type 0) (numbers : List ℕ) : Type 0 where
-  pub count : ℕ
-  pub few : count < 65535
-  pub range : within count numbers
+-- the numbers of a cell with the rows that wait
+abbrev pub whole_cell : (ℕ → List ℕ → ℕ → ℕ) → ℕ → ℕ → List ℕ → ℕ → List ℕ → ℕ → ℕ → ℕ → List ℕ
+whole_cell step size places numbers n samples waiting plane place = with_rows step (waiting_row n places samples plane place) waiting (cell_of size places numbers plane place)

@@ -1,6 +1,11 @@
 pub mod Cells
 pub mod Fields
-pub mod Kept
 pub mod Kinds
 pub mod ShiftedRows
+pub mod ColumnSums
+pub mod Gathered
+pub mod Walk
+pub mod OutputSteps
+pub mod OneCell
+pub mod Kept
 pub mod Stands

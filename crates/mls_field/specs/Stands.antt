@@ -16,4 +16,4 @@ abbrev pub row_count : Field → ℕ → ℕ
 row_count f plane = slice_index f.counts.items plane
 
 abbrev pub StandsFor : Field → Table → Type 0
-StandsFor f table = HoldsTable f.shape f.places f.counts.items f.powers.items f.ends.items f.numbers.items f.products.items table
+StandsFor f table = HoldsTable f.shape f.places f.counts.items f.waiting.items f.sums.items f.ends.items f.numbers.items f.samples.items table

@@ -1,47 +1,236 @@
-//! Adding a row to the sums of a cell, one kind of sums a function.
+//! The numbers of a single cell: read from their columns, and with the rows that wait for them.
 
-ghost use Rattle.std.specs.Prelude.{◌≡◌, ℕ, List, length, slice_index};
-ghost use Rattle.mls_model.specs.Samples.{shifted};
-ghost use Rattle.mls_field.specs.Cells.{AddsRow, HasRoom};
-ghost use Rattle.mls_field.specs.Kinds.{PowersWithin, HoldPowers, ExtremaWithin, HoldExtrema, NumbersWithin, HoldNumbers};
+ghost use Rattle.std.specs.Prelude.{◌≡◌, ℕ, ◌+◌, ◌*◌, ◌^◌, ◌<◌, ◌≤◌, List, length, slice_index};
+ghost use Rattle.mls_power.specs.Standing.{count_of, first_of as power_first, second_of as power_second, third_of as power_third, fourth_of as power_fourth};
+ghost use Rattle.mls_field.specs.Cells.{with_rows};
+ghost use Rattle.mls_field.specs.ColumnSums.{sums_size, of_column, column_at, sums_step, IsWithin, most_added};
+ghost use Rattle.mls_field.specs.Gathered.{row_behind};
+ghost use Rattle.mls_field.specs.Kinds.{SumsWithin, first_of, second_of, third_of, fourth_of};
+ghost use Rattle.mls_field.specs.OneCell.{IsRowAt, SameFront, Stepped, HasRoomFor};
+ghost use Rattle.mls_field.specs.OutputSteps.{ends_step, numbers_step};
 
+use crate::columns::{Column, column_of};
 use mls_base::shape::Shape;
-use mls_power::above::add_pair_above;
-use mls_power::ends::add_to_extrema;
-use mls_power::sums::add_sample;
+use mls_power::above::one_if_above;
+use mls_power::columns::{cube, fourth, high_half, low_half};
+use mls_power::ends::EXTREMA_NUMBERS;
+use mls_power::exceed::MOST_THRESHOLDS;
+use mls_power::power::Power;
 
-/// The shifted value of a sample.
-pub(crate) fn shifted_value(signed: bool, sample: u16) -> u16
-    ensures { result ≡ shifted signed sample }
+/// The most sums of a cell.
+pub(crate) const MOST_SUMS: usize = 72;
+
+// What a row adds to a sum.
+fn addend(column: Column, parameters: u32, samples: &[u16], at: usize, places: usize) -> u64
+    requires few { parameters ≤ 16 }
+    requires column { IsWithin (parameters + 2) column }
+    requires samples { (r : ℕ) → r < parameters + 2 → at + r * places < length samples.now }
+    ensures value { (row : List ℕ) → IsRowAt (parameters + 2) places at samples.now row → result ≡ of_column column row }
+    ensures small { result ≤ most_added column }
 {
-    let shift = if signed { 32768 } else { 0 };
-    sample.wrapping_add(shift)
+    match column {
+        Column::Samples { x } => samples[at + x * places] as u64,
+        Column::Products { x, y } => samples[at + x * places] as u64
+            * samples[at + y * places] as u64,
+        Column::Cubes { x } => cube(samples[at + x * places]),
+        Column::LowFourths => low_half(fourth(samples[at]))
+            + low_half(fourth(samples[at + places])),
+        Column::HighFourths => high_half(fourth(samples[at]))
+            + high_half(fourth(samples[at + places])),
+    }
 }
 
-/// Adds a row's samples A and B to the power sums of a cell.
-pub(crate) fn add_to_powers(words: &mut [u64], a: u16, b: u16)
-    requires size { length words.old ≡ 6 }
-    requires room { HasRoom PowersWithin words.old }
-    ensures { (row : List ℕ) → slice_index row 0 ≡ a → slice_index row 1 ≡ b → AddsRow PowersWithin HoldPowers words.old words.new row }
+// Adds a row to the sums of a cell.
+fn add_row(sums: &mut [u64], parameters: u32, samples: &[u16], at: usize, places: usize)
+    requires few { parameters ≤ 16 }
+    requires size { sums_size parameters ≤ length sums.old }
+    requires samples { (r : ℕ) → r < parameters + 2 → at + r * places < length samples.now }
+    requires room { (c : ℕ) → c < sums_size parameters → slice_index sums.old c + most_added (column_at parameters c) < 2 ^ 64 }
+    ensures { (row : List ℕ) → IsRowAt (parameters + 2) places at samples.now row → Stepped (sums_step parameters) (sums_size parameters) row sums.old sums.new }
 {
-    add_sample(words, a);
-    add_sample(words, b);
+    for c in 0..8 + 4 * parameters as usize {
+        let column = column_of(parameters, c);
+        sums[c] += addend(column, parameters, samples, at, places);
+    }
 }
 
-/// Adds them to its least and greatest sample.
-pub(crate) fn add_to_ends(ends: &mut [u16], a: u16, b: u16)
+/// Adds the rows that wait for a cell to its sums.
+pub(crate) fn add_rows_to_sums(
+    sums: &mut [u64],
+    parameters: u32,
+    samples: &[u16],
+    start: usize,
+    places: usize,
+    place: usize,
+    waiting: u32,
+)
+    requires few { parameters ≤ 16 }
+    requires size { sums_size parameters ≤ length sums.old }
+    requires waiting { waiting ≤ 7 }
+    requires place { place < places }
+    requires samples { start + (parameters + 2) * places * 8 ≤ length samples.now }
+    requires room { HasRoomFor (SumsWithin parameters) waiting sums.old }
+    ensures range { (count : ℕ) → SumsWithin parameters count sums.old → SumsWithin parameters (count + waiting) sums.new }
+    ensures whole { (cell : List ℕ) → length cell ≡ sums_size parameters → SameFront (sums_size parameters) sums.old cell → SameFront (sums_size parameters) sums.new (with_rows (sums_step parameters) (row_behind (parameters + 2) places samples.now start place) waiting cell) }
+{
+    let stride = (parameters as usize + 2) * places;
+    for g in 0..waiting {
+        add_row(
+            sums,
+            parameters,
+            samples,
+            g as usize * stride + start + place,
+            places,
+        );
+    }
+}
+
+/// Adds the rows that wait for a cell to its least and greatest samples.
+pub(crate) fn add_rows_to_ends(
+    ends: &mut [u16],
+    parameters: u32,
+    samples: &[u16],
+    start: usize,
+    places: usize,
+    place: usize,
+    waiting: u32,
+)
+    requires few { parameters ≤ 16 }
+    requires size { length ends.old ≡ 2 }
+    requires waiting { waiting ≤ 7 }
+    requires place { place < places }
+    requires samples { start + (parameters + 2) * places * 8 ≤ length samples.now }
+    ensures whole { (cell : List ℕ) → length cell ≡ 2 → SameFront 2 ends.old cell → SameFront 2 ends.new (with_rows ends_step (row_behind (parameters + 2) places samples.now start place) waiting cell) }
+{
+    let stride = (parameters as usize + 2) * places;
+    for g in 0..waiting {
+        let at = g as usize * stride + start + place;
+        add_pair_to_ends(ends, samples[at], samples[at + places]);
+    }
+}
+
+fn add_pair_to_ends(ends: &mut [u16], a: u16, b: u16)
     requires { length ends.old ≡ 2 }
-    ensures { (row : List ℕ) → slice_index row 0 ≡ a → slice_index row 1 ≡ b → AddsRow ExtremaWithin HoldExtrema ends.old ends.new row }
+    ensures { (row : List ℕ) → slice_index row 0 ≡ a → slice_index row 1 ≡ b → Stepped ends_step 2 row ends.old ends.new }
 {
-    add_to_extrema(ends, a);
-    add_to_extrema(ends, b);
+    ends[0] = ends[0].min(a).min(b);
+    ends[1] = ends[1].max(a).max(b);
 }
 
-/// Adds them to its numbers above the thresholds.
-pub(crate) fn add_to_numbers(numbers: &mut [u32], shape: &Shape, a: u16, b: u16)
-    requires size { length numbers.old ≡ length shape.now.thresholds }
-    requires room { HasRoom NumbersWithin numbers.old }
-    ensures { (row : List ℕ) → slice_index row 0 ≡ a → slice_index row 1 ≡ b → AddsRow NumbersWithin (HoldNumbers shape.now.thresholds) numbers.old numbers.new row }
+fn add_pair_to_numbers(numbers: &mut [u32], shape: &Shape, a: u16, b: u16)
+    requires size { length shape.now.thresholds ≤ length numbers.old }
+    requires room { (c : ℕ) → c < length shape.now.thresholds → slice_index numbers.old c ≤ 131068 }
+    ensures { (row : List ℕ) → slice_index row 0 ≡ a → slice_index row 1 ≡ b → Stepped (numbers_step shape.now.thresholds) (length shape.now.thresholds) row numbers.old numbers.new }
 {
-    add_pair_above(numbers, shape, a, b);
+    for c in 0..shape.thresholds() {
+        let threshold = shape.threshold(c);
+        let more = one_if_above(a, threshold) + one_if_above(b, threshold);
+        numbers[c as usize] += more;
+    }
+}
+
+/// Adds the rows that wait for a cell to its numbers above thresholds.
+pub(crate) fn add_rows_to_numbers(
+    numbers: &mut [u32],
+    shape: &Shape,
+    samples: &[u16],
+    start: usize,
+    places: usize,
+    place: usize,
+    waiting: u32,
+)
+    requires size { length shape.now.thresholds ≤ length numbers.old }
+    requires waiting { waiting ≤ 7 }
+    requires place { place < places }
+    requires samples { start + (shape.now.parameters + 2) * places * 8 ≤ length samples.now }
+    requires room { (c : ℕ) → c < length shape.now.thresholds → slice_index numbers.old c + 2 * waiting ≤ 131070 }
+    ensures whole { (cell : List ℕ) → length cell ≡ length shape.now.thresholds → SameFront (length shape.now.thresholds) numbers.old cell → SameFront (length shape.now.thresholds) numbers.new (with_rows (numbers_step shape.now.thresholds) (row_behind (shape.now.parameters + 2) places samples.now start place) waiting cell) }
+{
+    let stride = (shape.parameters() as usize + 2) * places;
+    for g in 0..waiting {
+        let at = g as usize * stride + start + place;
+        add_pair_to_numbers(numbers, shape, samples[at], samples[at + places]);
+    }
+}
+
+/// The sums of a cell as they stand in their columns, in the front of an array.
+pub(crate) fn read_sums(
+    words: &[u64],
+    row: usize,
+    size: usize,
+    places: usize,
+    place: usize,
+) -> [u64; MOST_SUMS]
+    requires size { size ≤ 72 }
+    requires place { place < places }
+    requires row { row + size < 2 ^ 63 }
+    requires words { (row + size) * places ≤ length words.now }
+    ensures { (c : ℕ) → c < size → slice_index result c ≡ slice_index words.now ((row + c) * places + place) }
+{
+    let mut sums = [0; MOST_SUMS];
+    for c in 0..size {
+        sums[c] = words[(row + c) * places + place];
+    }
+    sums
+}
+
+/// The least and the greatest sample of a cell as they stand in their columns.
+pub(crate) fn read_ends(
+    ends: &[u16],
+    row: usize,
+    places: usize,
+    place: usize,
+) -> [u16; EXTREMA_NUMBERS]
+    requires place { place < places }
+    requires row { row + 2 < 2 ^ 63 }
+    requires ends { (row + 2) * places ≤ length ends.now }
+    ensures least { slice_index result 0 ≡ slice_index ends.now (row * places + place) }
+    ensures greatest { slice_index result 1 ≡ slice_index ends.now ((row + 1) * places + place) }
+{
+    [ends[row * places + place], ends[(row + 1) * places + place]]
+}
+
+/// The numbers of a cell above thresholds as they stand in their columns, in the front of an array.
+pub(crate) fn read_numbers(
+    numbers: &[u32],
+    row: usize,
+    size: usize,
+    places: usize,
+    place: usize,
+) -> [u32; MOST_THRESHOLDS]
+    requires size { size ≤ 8 }
+    requires place { place < places }
+    requires row { row + size < 2 ^ 63 }
+    requires numbers { (row + size) * places ≤ length numbers.now }
+    ensures { (c : ℕ) → c < size → slice_index result c ≡ slice_index numbers.now ((row + c) * places + place) }
+{
+    let mut read = [0; MOST_THRESHOLDS];
+    for c in 0..size {
+        read[c] = numbers[(row + c) * places + place];
+    }
+    read
+}
+
+/// The power sums of A and B that the sums of so many rows hold.
+pub(crate) fn power_of(sums: &[u64], parameters: u32, rows: u32) -> Power
+    requires few { rows ≤ 65535 }
+    requires parameters { parameters ≤ 16 }
+    requires size { sums_size parameters ≤ length sums.now }
+    requires range { SumsWithin parameters rows sums.now }
+    ensures count { count_of result ≡ 2 * rows }
+    ensures first { power_first result ≡ first_of sums.now }
+    ensures second { power_second result ≡ second_of sums.now }
+    ensures third { power_third result ≡ third_of parameters sums.now }
+    ensures fourth { power_fourth result ≡ fourth_of parameters sums.now }
+{
+    let at = 4 + 4 * parameters as usize;
+    let third = sums[at] as u128 + sums[at + 1] as u128;
+    let fourth = sums[at + 2] as u128 + 4294967296 * sums[at + 3] as u128;
+    Power::from_sums(
+        2 * rows,
+        sums[0] + sums[1],
+        sums[2] + sums[3],
+        third,
+        fourth,
+    )
 }

@@ -2,36 +2,45 @@
 
 ghost use Rattle.mls_field.specs.Fields.{IsField};
 
-use crate::blocks::{add_ends, add_numbers, add_powers, add_products, clear_ends};
+use crate::cells::{
+    MOST_SUMS, add_rows_to_ends, add_rows_to_numbers, add_rows_to_sums, power_of, read_ends,
+    read_numbers, read_sums,
+};
+use crate::columns::{add_to_ends, add_to_numbers, add_to_sums};
+use crate::ends::clear_ends;
 use crate::fold::RowFold;
+use crate::gathered::gather;
 use mls_base::faults::NoMemory;
 use mls_base::rows::Rows;
 use mls_base::shape::Shape;
 use mls_cov::Martinez;
-use mls_cov::sums::sum_count;
+use mls_power::columns::GROUPS;
 use mls_power::ends::EXTREMA_NUMBERS;
-use mls_power::exceed::Exceed;
+use mls_power::exceed::{Exceed, MOST_THRESHOLDS};
 use mls_power::extrema::Extrema;
 use mls_power::power::{Power, Powers};
-use mls_power::sums::POWER_WORDS;
 use std::alloc::Global;
 
 /// The sums of the rows of each cell of a rank's block, for each plane: all that `Power`, `Extrema`, `Exceed` and `Martinez` keep, over shifted values.
 /// A step is the number of a plane, and a cell is a place in the block.
 ///
-/// Each kind of sums lies in a list of its own, packed by the study's parameters and thresholds, cell after cell.
-/// With p parameters and t thresholds a cell takes 84 + 32 · p + 4 · t bytes.
+/// Of each plane up to seven rows wait as samples. When an eighth comes, all are added together, so that the sums are read and written once for eight rows.
+/// A reader adds the rows that wait for a cell to the copy that it hands out.
+///
+/// Each kind of sums lies in a list of its own, plane after plane, each plane's in columns that are as long as the plane.
+/// With p parameters and t thresholds a cell takes 68 + 32 · p + 4 · t bytes, and 16 · (p + 2) for the rows that wait.
 #[derive(Drop)]
 pub struct Field {
     shape: Shape,
     rank: u32,
     places: u32,
     counts: Vec<u32>,
-    powers: Vec<u64>,
+    waiting: Vec<u32>,
+    sums: Vec<u64>,
     ends: Vec<u16>,
     numbers: Vec<u32>,
-    products: Vec<u64>,
-    ghost kept: { IsField shape rank places counts.items powers.items ends.items numbers.items products.items },
+    samples: Vec<u16>,
+    ghost kept: { IsField shape rank places counts.items waiting.items sums.items ends.items numbers.items samples.items },
 }
 
 impl RowFold for Field {
@@ -50,60 +59,146 @@ impl RowFold for Field {
         let places = block.end - block.first;
         let planes = shape.planes() as usize;
         let cells = planes * places as usize;
+        let rows = shape.parameters() as usize + 2;
         let counts = vec![in alloc; 0u32; planes]?;
-        let powers = vec![in alloc; 0u64; POWER_WORDS * cells]?;
+        let waiting = vec![in alloc; 0u32; planes]?;
+        let sums = vec![in alloc; 0u64; 4 * rows * cells]?;
         let mut ends = vec![in alloc; 0u16; EXTREMA_NUMBERS * cells]?;
         let numbers = vec![in alloc; 0u32; shape.thresholds() as usize * cells]?;
-        let products = vec![in alloc; 0u64; sum_count(shape.parameters()) * cells]?;
-        clear_ends(ends.as_mut_slice());
+        let samples = vec![in alloc; 0u16; GROUPS * rows * cells]?;
+        clear_ends(ends.as_mut_slice(), planes, places as usize);
         Ok(Field {
             shape: *shape,
             rank,
             places,
             counts,
-            powers,
+            waiting,
+            sums,
             ends,
             numbers,
-            products,
+            samples,
         })
     }
 
     fn add_block<R: Rows>(&mut self, step: u32, rows: &R) {
-        let first = step as usize * self.places as usize;
-        let shape = self.shape;
-        let signed = shape.signed();
-        add_powers(self.powers.as_mut_slice(), first, signed, rows);
-        add_ends(self.ends.as_mut_slice(), first, signed, rows);
-        add_numbers(self.numbers.as_mut_slice(), first, &shape, rows);
-        add_products(self.products.as_mut_slice(), first, &shape, rows);
-        self.counts[step as usize] += 1;
+        if self.waiting[step as usize] < 7 {
+            self.keep_waiting(step, rows);
+        } else {
+            self.add_waiting(step, rows);
+        }
     }
 
     fn reset(&mut self) {
+        let planes = self.shape.planes() as usize;
         self.counts.as_mut_slice().fill(0);
-        self.powers.as_mut_slice().fill(0);
-        clear_ends(self.ends.as_mut_slice());
+        self.waiting.as_mut_slice().fill(0);
+        self.sums.as_mut_slice().fill(0);
+        clear_ends(self.ends.as_mut_slice(), planes, self.places as usize);
         self.numbers.as_mut_slice().fill(0);
-        self.products.as_mut_slice().fill(0);
     }
 }
 
 impl Field {
-    ghost use Rattle.std.specs.Prelude.{◌≡◌, ℕ, ◌+◌, ◌*◌, ◌<◌, ◌≤◌, length, map};
+    ghost use Rattle.std.specs.Prelude.{◌≡◌, ◌==◌, ℕ, ◌+◌, ◌*◌, ◌<◌, ◌≤◌, length, map, slice_index, cond};
     ghost use Rattle.mls_model.specs.Samples.{unshifted};
     ghost use Rattle.mls_model.specs.Studies.{planes};
     ghost use Rattle.mls_model.specs.Blocks.{block, width};
-    ghost use Rattle.mls_model.specs.Standing.{Table};
+    ghost use Rattle.mls_model.specs.Standing.{Table, with_block};
     ghost use Rattle.mls_model.specs.Statistics.{outputs, variance_top, third_top};
     ghost use Rattle.mls_power.specs.Standing.{count_of, StandsFor as PowerStandsFor, ArePowers};
     ghost use Rattle.mls_power.specs.ExtremaStanding.{ExtremaStandFor};
     ghost use Rattle.mls_power.specs.ExceedStanding.{exceed_count_of, ExceedStandsFor};
     ghost use Rattle.mls_cov.specs.Standing.{count_of as martinez_count_of, parameters_of, StandsFor as MartinezStandsFor};
     ghost use Rattle.mls_field.specs.Stands.{shape_of, rank_of, row_count, StandsFor};
-    ghost use Rattle.mls_field.specs.ShiftedRows.{shifted_outputs};
-    ghost use Rattle.mls_field.specs.Kept.{sums_at, HasPowers, HasEnds, HasNumbers, HasProducts, HasValuePowers};
+    ghost use Rattle.mls_field.specs.ColumnSums.{sums_size};
+    ghost use Rattle.mls_field.specs.Gathered.{plane_start};
+    ghost use Rattle.mls_field.specs.Kinds.{SumsWithin};
+    ghost use Rattle.mls_field.specs.OneCell.{SameFront};
+    ghost use Rattle.mls_field.specs.ShiftedRows.{shifted_row, shifted_outputs};
+    ghost use Rattle.mls_field.specs.Kept.{sums_in_cell, ends_in_cell, numbers_in_cell, sums_at, HasPowers, HasEnds, HasNumbers, HasProducts, HasValuePowers};
     ghost use Rattle.mls_model.specs.CellSums.{sums_of};
     ghost use Rattle.mls_model.specs.SumsText.{height, variance_top_of, third_top_of};
+
+    // Puts a row at each place of a plane with those that wait.
+    fn keep_waiting<R: Rows>(&mut self, step: u32, rows: &R)
+        requires plane_in { step < planes (shape_of self.old) }
+        requires rows { R.row_count rows.now ≡ (shape_of self.old).parameters + 2 }
+        requires cells { R.place_count rows.now ≡ width (block (shape_of self.old) (rank_of self.old)) }
+        requires room { row_count self.old step < 65535 }
+        requires waiting { slice_index self.old.waiting.items step < 7 }
+        ensures shape { shape_of self.new ≡ shape_of self.old }
+        ensures rank { rank_of self.new ≡ rank_of self.old }
+        ensures counted { (plane : ℕ) → row_count self.new plane ≡ cond (plane == step) (row_count self.old plane + 1) (row_count self.old plane) }
+        ensures stands { (t : Table) → StandsFor self.old t → StandsFor self.new (with_block t step (width (block (shape_of self.old) (rank_of self.old))) (shifted_row (shape_of self.old).signed (R.row_count rows.now) (R.sample rows.now))) }
+    {
+        let plane = step as usize;
+        let stride = (self.shape.parameters() as usize + 2) * self.places as usize;
+        let waiting = self.waiting[plane];
+        let start = self.first_sample(step) + waiting as usize * stride;
+        gather(
+            self.samples.as_mut_slice(),
+            start,
+            self.shape.signed(),
+            rows,
+        );
+        self.counts[plane] += 1;
+        self.waiting[plane] = waiting + 1;
+    }
+
+    // Adds all rows that wait for a plane, and with them a row at each place.
+    fn add_waiting<R: Rows>(&mut self, step: u32, rows: &R)
+        requires plane_in { step < planes (shape_of self.old) }
+        requires rows { R.row_count rows.now ≡ (shape_of self.old).parameters + 2 }
+        requires cells { R.place_count rows.now ≡ width (block (shape_of self.old) (rank_of self.old)) }
+        requires room { row_count self.old step < 65535 }
+        requires waiting { slice_index self.old.waiting.items step ≡ 7 }
+        ensures shape { shape_of self.new ≡ shape_of self.old }
+        ensures rank { rank_of self.new ≡ rank_of self.old }
+        ensures counted { (plane : ℕ) → row_count self.new plane ≡ cond (plane == step) (row_count self.old plane + 1) (row_count self.old plane) }
+        ensures stands { (t : Table) → StandsFor self.old t → StandsFor self.new (with_block t step (width (block (shape_of self.old) (rank_of self.old))) (shifted_row (shape_of self.old).signed (R.row_count rows.now) (R.sample rows.now))) }
+    {
+        let plane = step as usize;
+        let places = self.places as usize;
+        let shape = self.shape;
+        let parameters = shape.parameters();
+        let stride = (parameters as usize + 2) * places;
+        let start = plane * (GROUPS * stride);
+        gather(
+            self.samples.as_mut_slice(),
+            start + 7 * stride,
+            shape.signed(),
+            rows,
+        );
+        let samples = self.samples.as_slice();
+        let row = plane * (8 + 4 * parameters as usize);
+        add_to_sums(
+            self.sums.as_mut_slice(),
+            row,
+            places,
+            parameters,
+            samples,
+            start,
+        );
+        add_to_ends(
+            self.ends.as_mut_slice(),
+            plane * EXTREMA_NUMBERS,
+            places,
+            parameters,
+            samples,
+            start,
+        );
+        let row = plane * shape.thresholds() as usize;
+        add_to_numbers(
+            self.numbers.as_mut_slice(),
+            row,
+            places,
+            &shape,
+            samples,
+            start,
+        );
+        self.counts[plane] += 1;
+        self.waiting[plane] = 0;
+    }
 
     /// How many rows were added to a plane.
     pub fn rows(&self, step: u32) -> u32
@@ -117,17 +212,96 @@ impl Field {
         self.counts[step as usize]
     }
 
-    // The number of a cell among those of all planes.
-    fn cell(&self, step: u32, cell: u32) -> usize
+    // Where the samples that wait for a plane begin.
+    fn first_sample(&self, step: u32) -> usize
+        requires { step < planes (shape_of self.now) }
+        ensures value { result ≡ plane_start ((shape_of self.now).parameters + 2) self.now.places step }
+        ensures fits { result + ((shape_of self.now).parameters + 2) * self.now.places * 8 ≤ length self.now.samples.items }
+    {
+        let stride = (self.shape.parameters() as usize + 2) * self.places as usize;
+        step as usize * (GROUPS * stride)
+    }
+
+    // How many rows wait for a plane.
+    fn waiting_rows(&self, step: u32) -> u32
+        requires { step < planes (shape_of self.now) }
+        ensures value { result ≡ slice_index self.now.waiting.items step }
+        ensures few { result ≤ 7 }
+    {
+        self.waiting[step as usize]
+    }
+
+    // The sums of a cell, with the rows that wait for it, in the front of an array.
+    fn whole_sums(&self, step: u32, cell: u32) -> [u64; MOST_SUMS]
         requires step_in { step < planes (shape_of self.now) }
         requires cell_in { cell < width (block (shape_of self.now) (rank_of self.now)) }
-        ensures value { result ≡ step * self.now.places + cell }
-        ensures powers { result * 6 + 6 ≤ length self.now.powers.items }
-        ensures ends { result * 2 + 2 ≤ length self.now.ends.items }
-        ensures numbers { result * length (shape_of self.now).thresholds + length (shape_of self.now).thresholds ≤ length self.now.numbers.items }
-        ensures products { result * (4 + 4 * (shape_of self.now).parameters) + (4 + 4 * (shape_of self.now).parameters) ≤ length self.now.products.items }
+        ensures front { SameFront (sums_size (shape_of self.now).parameters) result (sums_in_cell self.now step cell) }
+        ensures range { SumsWithin (shape_of self.now).parameters (row_count self.now step) result }
     {
-        step as usize * self.places as usize + cell as usize
+        let parameters = self.shape.parameters();
+        let places = self.places as usize;
+        let place = cell as usize;
+        let size = 8 + 4 * parameters as usize;
+        let start = self.first_sample(step);
+        let waiting = self.waiting_rows(step);
+        let samples = self.samples.as_slice();
+        let mut sums = read_sums(
+            self.sums.as_slice(),
+            step as usize * size,
+            size,
+            places,
+            place,
+        );
+        add_rows_to_sums(
+            &mut sums, parameters, samples, start, places, place, waiting,
+        );
+        sums
+    }
+
+    // The least and the greatest sample of a cell, with the rows that wait for it.
+    fn whole_ends(&self, step: u32, cell: u32) -> [u16; EXTREMA_NUMBERS]
+        requires step_in { step < planes (shape_of self.now) }
+        requires cell_in { cell < width (block (shape_of self.now) (rank_of self.now)) }
+        ensures { SameFront 2 result (ends_in_cell self.now step cell) }
+    {
+        let parameters = self.shape.parameters();
+        let places = self.places as usize;
+        let place = cell as usize;
+        let start = self.first_sample(step);
+        let waiting = self.waiting_rows(step);
+        let samples = self.samples.as_slice();
+        let row = step as usize * EXTREMA_NUMBERS;
+        let mut ends = read_ends(self.ends.as_slice(), row, places, place);
+        add_rows_to_ends(
+            &mut ends, parameters, samples, start, places, place, waiting,
+        );
+        ends
+    }
+
+    // The numbers of a cell above thresholds, with the rows that wait for it, in the front of an array.
+    fn whole_numbers(&self, step: u32, cell: u32) -> [u32; MOST_THRESHOLDS]
+        requires step_in { step < planes (shape_of self.now) }
+        requires cell_in { cell < width (block (shape_of self.now) (rank_of self.now)) }
+        ensures { SameFront (length (shape_of self.now).thresholds) result (numbers_in_cell self.now step cell) }
+    {
+        let places = self.places as usize;
+        let place = cell as usize;
+        let size = self.shape.thresholds() as usize;
+        let start = self.first_sample(step);
+        let waiting = self.waiting_rows(step);
+        let samples = self.samples.as_slice();
+        let row = step as usize * size;
+        let mut numbers = read_numbers(self.numbers.as_slice(), row, size, places, place);
+        add_rows_to_numbers(
+            &mut numbers,
+            &self.shape,
+            samples,
+            start,
+            places,
+            place,
+            waiting,
+        );
+        numbers
     }
 
     /// The power sums of a cell, over shifted values.
@@ -138,8 +312,8 @@ impl Field {
         ensures kept { HasPowers (sums_at self.now step cell) result }
         ensures sums { (t : Table) → StandsFor self.now t → PowerStandsFor result (shifted_outputs (t step cell)) }
     {
-        let at = self.cell(step, cell) * POWER_WORDS;
-        Power::unpacked(2 * self.rows(step), &self.powers[at..at + POWER_WORDS])
+        let sums = self.whole_sums(step, cell);
+        power_of(&sums, self.shape.parameters(), self.rows(step))
     }
 
     /// The least and the greatest sample of a cell, as shifted values.
@@ -150,8 +324,8 @@ impl Field {
         ensures ends { (t : Table) → StandsFor self.now t → ExtremaStandFor result (shifted_outputs (t step cell)) }
         ensures outputs { (t : Table) → StandsFor self.now t → outputs (map (map (unshifted (shape_of self.now).signed)) (t step cell)) ≡ map (unshifted (shape_of self.now).signed) (shifted_outputs (t step cell)) }
     {
-        let at = self.cell(step, cell) * EXTREMA_NUMBERS;
-        Extrema::unpacked(&self.ends[at..at + EXTREMA_NUMBERS])
+        let ends = self.whole_ends(step, cell);
+        Extrema::unpacked(&ends)
     }
 
     /// How many samples of a cell are above each threshold.
@@ -163,9 +337,9 @@ impl Field {
         ensures numbers { (t : Table) → StandsFor self.now t → ExceedStandsFor (shape_of self.now).thresholds result (shifted_outputs (t step cell)) }
         ensures outputs { (t : Table) → StandsFor self.now t → outputs (map (map (unshifted (shape_of self.now).signed)) (t step cell)) ≡ map (unshifted (shape_of self.now).signed) (shifted_outputs (t step cell)) }
     {
+        let numbers = self.whole_numbers(step, cell);
         let size = self.shape.thresholds() as usize;
-        let at = self.cell(step, cell) * size;
-        Exceed::unpacked(2 * self.rows(step), &self.numbers[at..at + size])
+        Exceed::unpacked(2 * self.rows(step), &numbers[..size])
     }
 
     /// The sums of which the indices of a cell are made, over shifted values.
@@ -177,10 +351,8 @@ impl Field {
         ensures kept { HasProducts (shape_of self.now).parameters (sums_at self.now step cell) result }
         ensures sums { (t : Table) → StandsFor self.now t → MartinezStandsFor result (t step cell) }
     {
-        let parameters = self.shape.parameters();
-        let size = sum_count(parameters);
-        let at = self.cell(step, cell) * size;
-        Martinez::unpacked(self.rows(step), parameters, &self.products[at..at + size])
+        let sums = self.whole_sums(step, cell);
+        Martinez::unpacked(self.rows(step), self.shape.parameters(), &sums)
     }
 
     /// The power sums of a cell, over values.

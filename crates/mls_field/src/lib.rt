@@ -1,9 +1,11 @@
 //! Sums over the rows of samples of a rank's block.
 #![tactic(auto)]
 
-mod blocks;
 mod cells;
+mod columns;
+mod ends;
 pub mod field;
 pub mod fold;
+mod gathered;
 #[cfg(test)]
 mod tests;

@@ -6,8 +6,8 @@ ghost use Rattle.mls_power.specs.Rules.{AreNumbersAbove};
 
 use mls_base::shape::Shape;
 
-// 1 for a sample above a threshold, and 0 for another. It is added without a branch, which samples in no order would make slow.
-pub(crate) fn one_if_above(x: u16, threshold: u16) -> u32
+/// 1 for a sample above a threshold, and 0 for another. It is added without a branch, which samples in no order would make slow.
+pub fn one_if_above(x: u16, threshold: u16) -> u32
     ensures value { result ≡ cond (nat_lt threshold x) 1 0 }
     ensures small { result ≤ 1 }
 {

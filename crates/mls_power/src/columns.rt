@@ -9,7 +9,8 @@ use crate::above::one_if_above;
 /// How many rows are added together.
 pub const GROUPS: usize = 8;
 
-fn cube(x: u16) -> u64
+/// The third power of a sample.
+pub fn cube(x: u16) -> u64
     ensures value { result ≡ x * x * x }
     ensures small { result ≤ 281462092005375 }
 {
@@ -17,21 +18,24 @@ fn cube(x: u16) -> u64
     square as u64 * x as u64
 }
 
-fn fourth(x: u16) -> u64
+/// The fourth power.
+pub fn fourth(x: u16) -> u64
     ensures { result ≡ x * x * (x * x) }
 {
     let square = x as u32 * x as u32;
     square as u64 * square as u64
 }
 
-fn low_half(x: u64) -> u64
+/// The low 32 bits of a number.
+pub fn low_half(x: u64) -> u64
     ensures value { result ≡ x % 2 ^ 32 }
     ensures small { result < 2 ^ 32 }
 {
     x & 0xffff_ffff
 }
 
-fn high_half(x: u64) -> u64
+/// The high 32 bits.
+pub fn high_half(x: u64) -> u64
     ensures value { result ≡ x / 2 ^ 32 }
     ensures small { result < 2 ^ 32 }
 {

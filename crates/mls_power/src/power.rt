@@ -64,6 +64,24 @@ impl Power {
         Power { count, sums }
     }
 
+    /// So many samples with these sums of their first to fourth powers, which keep the rules on such sums.
+    pub fn from_sums(count: u32, p1: u64, p2: u64, p3: u128, p4: u128) -> Power
+        requires few { count ≤ 131070 }
+        requires sums { AreSums count p1 p2 p3 p4 }
+        ensures count { count_of result ≡ count }
+        ensures first { first_of result ≡ p1 }
+        ensures second { second_of result ≡ p2 }
+        ensures third { third_of result ≡ p3 }
+        ensures fourth { fourth_of result ≡ p4 }
+    {
+        let (third_low, third_high) = halves(p3);
+        let (fourth_low, fourth_high) = halves(p4);
+        Power {
+            count,
+            sums: [p1, p2, third_low, third_high, fourth_low, fourth_high],
+        }
+    }
+
     /// So many samples with these sums of their first to fourth powers, or None exactly where a rule on such sums fails:
     /// each is at most 65,535 times the one before it, the first at most 65,535 times the count, and the square of the first at most the count times the second.
     pub fn of(count: u32, p1: u64, p2: u64, p3: u128, p4: u128) -> Option<Power>
@@ -75,15 +93,11 @@ impl Power {
         ensures third { IfSome result (λ p. third_of p ≡ p3) }
         ensures fourth { IfSome result (λ p. fourth_of p ≡ p4) }
     {
-        if !are_sums(count, p1, p2, p3, p4) {
-            return None;
+        if are_sums(count, p1, p2, p3, p4) {
+            Some(Power::from_sums(count, p1, p2, p3, p4))
+        } else {
+            None
         }
-        let (third_low, third_high) = halves(p3);
-        let (fourth_low, fourth_high) = halves(p4);
-        Some(Power {
-            count,
-            sums: [p1, p2, third_low, third_high, fourth_low, fourth_high],
-        })
     }
 
     /// Adds a sample.

@@ -1,36 +1,36 @@
-use Rattle.std.proofs.Common.{ℕ, ◌+◌, ◌*◌, ◌<◌, List, ap, ◌∙◌, sym, subst, arith}
-use Rattle.mls_power.specs.PowerSums.{HoldsSums, AreInRange, first_in, second_in, third_in, fourth_in}
-use Rattle.mls_field.specs.Cells.{cell_of}
-use Rattle.mls_field.specs.ShiftedRows.{shifted_outputs}
-use Rattle.mls_field.proofs.Parts.{part_of}
-use Rattle.mls_field.proofs.Rows.{length-shifted_outputs}
+use Rattle.std.proofs.Common.{ℕ, ◌*◌, ap, ◌∙◌, sym, subst}
+use Rattle.mls_field.specs.Kinds.{SumsWithin, third_of, fourth_of}
+use Rattle.mls_field.specs.Kept.{sums_in_cell, sums_at, HasPowers}
+use Rattle.mls_field.proofs.Kept.{power_stands}
+use Rattle.mls_field.proofs.Whole.{here, firsts_same, seconds_same, thirds_same, fourths_same}
 use Rattle.mls_field.proofs.field.Field.power.Goals as goal
+use Rattle.mls_field.proofs.field.Field.power.Goals.{After-power_of}
 
-pub unpacked-requires-clause-range : goal.unpacked-requires-clause-range
-unpacked-requires-clause-range c =
+pub power_of-requires-clause-range : goal.power_of-requires-clause-range
+power_of-requires-clause-range c =
+    let sums = c.whole_sums-sums.result in
+    subst (λ (p : ℕ). SumsWithin p c.rows.result sums) (sym c.parameters.ensures.value)
+    (subst (λ (n : ℕ). SumsWithin c.args.self.now.shape.parameters n sums) (sym c.rows.ensures.value) c.whole_sums-sums.ensures.range)
+
+kept : (c : After-power_of) → HasPowers (sums_at c.args.self.now c.args.step c.args.cell) c.power_of.result
+kept c =
     let f = c.args.self.now in
-    let cell = c.args.step * f.places + c.args.cell in
-    let below : c.args.cell < f.places = omega (arith, f.kept.block_width, c.requires.cell_in) in
-    subst (λ (ws : List ℕ). AreInRange (2 * c.rows.result) ws) (sym (part_of 6 f.powers.items c.deref.result.now cell _ c.deref.ensures.value (ap (λ (k : ℕ). k * 6) c.cell-at.ensures.value)))
-    (subst (λ (k : ℕ). AreInRange (2 * k) (cell_of 6 f.powers.items cell)) (sym c.rows.ensures.value) (f.kept.powers_in.range c.args.step c.args.cell c.requires.step_in below))
+    let p = f.shape.parameters in
+    let sums = c.whole_sums-sums.result in
+    let cell = sums_in_cell f c.args.step c.args.cell in
+    let front = c.whole_sums-sums.ensures.front in
+    record {
+      count = c.power_of.ensures.count ∙ ap (λ (n : ℕ). 2 * n) c.rows.ensures.value;
+      first = c.power_of.ensures.first ∙ firsts_same p sums cell front;
+      second = c.power_of.ensures.second ∙ seconds_same p sums cell front;
+      third = c.power_of.ensures.third ∙ (ap (λ (q : ℕ). third_of q sums) c.parameters.ensures.value ∙ thirds_same p sums cell front);
+      fourth = c.power_of.ensures.fourth ∙ (ap (λ (q : ℕ). fourth_of q sums) c.parameters.ensures.value ∙ fourths_same p sums cell front);
+    }
+
+pub returns-clause-kept : goal.returns-clause-kept
+returns-clause-kept c = kept (goal.at.returns-clause-kept c).After-power_of
 
 pub returns-clause-sums : goal.returns-clause-sums
 returns-clause-sums c = λ t stands.
     let f = c.args.self.now in
-    let cell = c.args.step * f.places + c.args.cell in
-    let rows = t c.args.step c.args.cell in
-    let below : c.args.cell < f.places = omega (arith, f.kept.block_width, c.requires.cell_in) in
-    c.unpacked.ensures.sums (shifted_outputs rows) (omega (arith, length-shifted_outputs rows, stands.counted c.args.step c.args.cell c.requires.step_in below, c.rows.ensures.value))
-    (subst (λ (ws : List ℕ). HoldsSums ws (shifted_outputs rows)) (sym (part_of 6 f.powers.items c.deref.result.now cell _ c.deref.ensures.value (ap (λ (k : ℕ). k * 6) c.cell-at.ensures.value))) (stands.powers_of.each c.args.step c.args.cell c.requires.step_in below))
-
-pub returns-clause-kept : goal.returns-clause-kept
-returns-clause-kept c =
-    let f = c.args.self.now in
-    let part = part_of 6 f.powers.items c.deref.result.now (c.args.step * f.places + c.args.cell) _ c.deref.ensures.value (ap (λ (k : ℕ). k * 6) c.cell-at.ensures.value) in
-    record {
-      count = c.unpacked.ensures.count ∙ ap (λ (k : ℕ). 2 * k) c.rows.ensures.value;
-      first = c.unpacked.ensures.first ∙ ap first_in part;
-      second = c.unpacked.ensures.second ∙ ap second_in part;
-      third = c.unpacked.ensures.third ∙ ap third_in part;
-      fourth = c.unpacked.ensures.fourth ∙ ap fourth_in part;
-    }
+    power_stands f t c.args.step c.args.cell c.power_of.result (kept (goal.at.returns-clause-sums c).After-power_of) stands c.requires.step_in (here f c.args.cell c.requires.cell_in)
