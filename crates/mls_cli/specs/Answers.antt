@@ -1,12 +1,11 @@
--- How an answer and a sink agree with what is right.
-use Rattle.std.specs.Prelude.{◌≡◌, ℕ, List, Option, Result, Ok, Err, IsOkAnd, ◌⊎◌, ⊤}
-use Rattle.mls_base.specs.Told.{appended, WroteFront}
+-- How an answer and what stands outside agree with what is right.
+use Rattle.std.specs.Prelude.{◌≡◌, ℕ, List, Option, Some, Result, Ok, Err, IsOkAnd, ◌⊎◌, ⊤}
+use Rattle.mls_base.specs.Told.{Names, Rose, appended, WroteFront}
 use Rattle.mls_launch.specs.declared.faults.OutFault.{OutFault}
 use Rattle.mls_launch.specs.declared.faults.OutFault.TheVariants as out
-use Rattle.mls_result.specs.declared.fault.FoldFault.{FoldFault}
-use Rattle.mls_result.specs.declared.fault.FoldFault.TheVariants.{WriteFault, Memory}
 use Rattle.mls_result.specs.declared.status.Status.{Status}
 use Rattle.mls_result.specs.declared.status.Status.TheVariants as status
+use Rattle.mls_cli.specs.Refusals.{FileState}
 
 -- After Done the sink has gained the text that is right and nothing else, after a failed write a front of it. After want of
 -- memory and a failed read it is as before. Each other answer is the refusal that is right, and nothing was written.
@@ -44,13 +43,24 @@ pub record Exactly (right : Result (List ℕ) Status) (refusal answer : Status) 
 abbrev pub IsRight : Result (List ℕ) Status → Type 0
 IsRight right = IsOkAnd right (λ text. ⊤)
 
--- what a command answers after a fold
-abbrev pub fold_status : {A : Type 0} → Result A FoldFault → Status
-fold_status (Ok done) = status.Done
-fold_status (Err WriteFault) = status.WriteFault
-fold_status (Err Memory) = status.Memory
+-- what a command sees of its sink: what it tells, and how many writes failed
+pub record SinkState : Type 0 where
+  pub told : Option (List ℕ)
+  pub faults : ℕ
 
--- and after a text that is made in memory and then written
+-- of this sink
+abbrev pub sink : {O : Type 0} → (O → Option (List ℕ)) → (O → ℕ) → O → SinkState
+sink told faults out = record { told = told out; faults = faults out }
+
+-- How a command answers that is to write what the held files ask for, the text or the refusal.
+pub record Carries (asked : Names → Result (List ℕ) Status) (files files' : FileState) (out out' : SinkState) (answer : Status) : Type 0 where
+  pub right : (held : Names) → files.held ≡ Some held → Answers (asked held) out.told out'.told answer
+  pub read_fault : answer ≡ status.ReadFault → Rose files.load_faults files'.load_faults
+  pub write_fault : answer ≡ status.WriteFault → Rose out.faults out'.faults
+  pub quiet : IsQuiet answer → out'.told ≡ out.told
+  pub saves : files'.save_faults ≡ files.save_faults
+
+-- what is answered after a text was made in memory and then written
 abbrev pub out_status : {A : Type 0} → Result A OutFault → Status
 out_status (Ok done) = status.Done
 out_status (Err out.WriteFault) = status.WriteFault

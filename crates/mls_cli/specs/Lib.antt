@@ -1,4 +1,9 @@
 pub mod Words
-pub mod Ideal
 pub mod Refusals
+pub mod Inputs
+pub mod Fold
+pub mod Watch
+pub mod Design
+pub mod Ideal
 pub mod Answers
+pub mod Output

@@ -1,12 +1,12 @@
 -- Why a command has no inputs, against what is right.
-use Rattle.std.specs.Prelude.{◌≡◌, ℕ, Result, Ok, Err, ⊤}
-use Rattle.mls_base.specs.Told.{Rose}
+use Rattle.std.specs.Prelude.{◌≡◌, ℕ, Option, Some, Result, Ok, Err, OnOk, MatchResult, ⊤}
+use Rattle.mls_base.specs.Told.{Names, Rose}
 use Rattle.mls_result.specs.declared.status.Status.{Status}
 use Rattle.mls_result.specs.declared.status.Status.TheVariants as status
 use Rattle.mls_study.specs.declared.fault.StudyFault.{StudyFault}
 use Rattle.mls_study.specs.declared.fault.StudyFault.TheVariants as study
-use Rattle.mls_cli.specs.declared.steps.Refusal.{Refusal}
-use Rattle.mls_cli.specs.declared.steps.Refusal.TheVariants as refusal
+use Rattle.mls_cli.specs.declared.refusal.Refusal.{Refusal}
+use Rattle.mls_cli.specs.declared.refusal.Refusal.TheVariants as refusal
 
 -- the answer of a command that is refused so
 abbrev pub status_of : Refusal → Status
@@ -19,16 +19,16 @@ status_of (refusal.NotBuilt part) = status.NotBuilt part
 status_of (refusal.TooLong file) = status.TooLong file
 status_of (refusal.Events line) = status.Events line
 
+-- how a command is refused whose study has this fault
+abbrev pub study_refusal : StudyFault → Refusal
+study_refusal study.Memory = refusal.Memory
+study_refusal fault = refusal.Study fault
+
 -- A refusal is the one that is right. A failed read and want of memory say nothing of what is held.
 abbrev pub IsRefused : {A : Type 0} → Refusal → Result A Status → Type 0
 IsRefused refusal.ReadFault right = ⊤
 IsRefused refusal.Memory right = ⊤
-IsRefused (refusal.Study fault) right = right ≡ Err (status.Study fault)
-IsRefused (refusal.Tape at why) right = right ≡ Err (status.Tape at why)
-IsRefused (refusal.Schedule line why) right = right ≡ Err (status.Schedule line why)
-IsRefused (refusal.NotBuilt part) right = right ≡ Err (status.NotBuilt part)
-IsRefused (refusal.TooLong file) right = right ≡ Err (status.TooLong file)
-IsRefused (refusal.Events line) right = right ≡ Err (status.Events line)
+IsRefused r right = right ≡ Err (status_of r)
 
 -- what was answered, seen by view, is what is right
 abbrev pub Agrees : {A B : Type 0} → (A → B) → Result A Refusal → Result B Status → Type 0
@@ -38,26 +38,26 @@ Agrees view (Err r) right = IsRefused r right
 -- the count of failed loads after a refusal: it rose where a read failed, and stands as before else
 abbrev pub Counts : Refusal → ℕ → ℕ → Type 0
 Counts refusal.ReadFault before now = Rose before now
-Counts refusal.Memory before now = now ≡ before
-Counts (refusal.Study fault) before now = now ≡ before
-Counts (refusal.Tape at why) before now = now ≡ before
-Counts (refusal.Schedule line why) before now = now ≡ before
-Counts (refusal.NotBuilt part) before now = now ≡ before
-Counts (refusal.TooLong file) before now = now ≡ before
-Counts (refusal.Events line) before now = now ≡ before
+Counts r before now = now ≡ before
 
 -- no read failed
 abbrev pub IsOfContent : Refusal → Type 0
 IsOfContent refusal.ReadFault = ⊥
-IsOfContent refusal.Memory = ⊤
-IsOfContent (refusal.Study fault) = ⊤
-IsOfContent (refusal.Tape at why) = ⊤
-IsOfContent (refusal.Schedule line why) = ⊤
-IsOfContent (refusal.NotBuilt part) = ⊤
-IsOfContent (refusal.TooLong file) = ⊤
-IsOfContent (refusal.Events line) = ⊤
+IsOfContent r = ⊤
 
--- how a command is refused whose study has this fault
-abbrev pub study_refusal : StudyFault → Refusal
-study_refusal study.Memory = refusal.Memory
-study_refusal fault = refusal.Study fault
+-- what a command sees of its files: what they hold, where they tell it, and how many loads and saves failed
+pub record FileState : Type 0 where
+  pub held : Option Names
+  pub load_faults : ℕ
+  pub save_faults : ℕ
+
+-- of these files
+abbrev pub seen : {F : Type 0} → (F → Option Names) → (F → ℕ) → (F → ℕ) → F → FileState
+seen held load_faults save_faults files = record { held = held files; load_faults = load_faults files; save_faults = save_faults files }
+
+-- What was loaded, seen by view, is what the held files ask for, or the refusal is. The files hold the same after it.
+pub record Loads {A B : Type 0} (view : A → B) (asked : Names → Result B Status) (old new : FileState) (result : Result A Refusal) : Type 0 where
+  pub right : (held : Names) → old.held ≡ Some held → Agrees view result (asked held)
+  pub same : OnOk result (new.held ≡ old.held)
+  pub loads : MatchResult result (λ _. new.load_faults ≡ old.load_faults) (λ r. Counts r old.load_faults new.load_faults)
+  pub saves : new.save_faults ≡ old.save_faults

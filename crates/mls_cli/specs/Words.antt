@@ -1,8 +1,9 @@
 -- Which words are a command of melissa, with the names and numbers in their places.
 use Rattle.std.specs.Prelude.{◌≡◌, ℕ, ◌^◌, Bool, false, not, cond, List, [], ◌∷◌, bytes_eq, codes, Option, Some, None, Result, Ok, Err, ◌==◌}
 use Rattle.std.specs.List.{list_all}
-use Rattle.std.specs.Option.{option_and_then}
+use Rattle.std.specs.Option.{option_and_then, option_map}
 use Rattle.mls_text.specs.Decimals.{number_below}
+use Rattle.mls_cli.specs.declared.words.FoldNames.{FoldNames}
 use Rattle.mls_cli.specs.declared.words.Words.{Words}
 use Rattle.mls_cli.specs.declared.words.Words.TheVariants.{Fold, Design, Trial, Watch, Bins, Export, Resume}
 use Rattle.mls_cli.specs.declared.words.WordsFault.{WordsFault}
@@ -14,10 +15,13 @@ is_word [] = false
 is_word (b ∷ bs) = not (b == 45)
 
 -- STUDY TAPE [SCHEDULE]
+abbrev pub fold_names : List (List ℕ) → Option FoldNames
+fold_names (study ∷ tape ∷ []) = Some (record { study = study; tape = tape; schedule = None })
+fold_names (study ∷ tape ∷ schedule ∷ []) = Some (record { study = study; tape = tape; schedule = Some schedule })
+fold_names _ = None
+
 abbrev pub fold_in : List (List ℕ) → Option Words
-fold_in (study ∷ tape ∷ []) = Some (Fold study tape None)
-fold_in (study ∷ tape ∷ schedule ∷ []) = Some (Fold study tape (Some schedule))
-fold_in _ = None
+fold_in words = option_map (λ names. Fold names.study names.tape names.schedule) (fold_names words)
 
 -- STUDY
 abbrev pub design_in : List (List ℕ) → Option Words
@@ -37,9 +41,7 @@ watch_in _ = None
 
 -- STUDY TAPE [SCHEDULE]
 abbrev pub bins_in : List (List ℕ) → Option Words
-bins_in (study ∷ tape ∷ []) = Some (Bins study tape None)
-bins_in (study ∷ tape ∷ schedule ∷ []) = Some (Bins study tape (Some schedule))
-bins_in _ = None
+bins_in words = option_map (λ names. Bins names.study names.tape names.schedule) (fold_names words)
 
 -- STUDY PREFIX
 abbrev pub export_in : List (List ℕ) → Option Words
@@ -73,8 +75,15 @@ abbrev pub IsThere : {A : Type 0} → Option A → Type 0
 IsThere None = ⊥
 IsThere (Some x) = Unit {0}
 
--- What was read is the command; usage is answered where there is none, and want of memory only where there is one.
+-- What was read, seen by view, is what the words say; usage is answered where they say nothing, and want of memory only where they do.
+abbrev pub ReadsAs : {A B : Type 0} → (A → B) → Result A WordsFault → Option B → Type 0
+ReadsAs view (Ok x) right = right ≡ Some (view x)
+ReadsAs view (Err Usage) right = right ≡ None
+ReadsAs view (Err Memory) right = IsThere right
+
+-- of a command, and of the names of a fold
 abbrev pub Reads : Result Words WordsFault → Option Words → Type 0
-Reads (Ok words) right = right ≡ Some words
-Reads (Err Usage) right = right ≡ None
-Reads (Err Memory) right = IsThere right
+Reads result right = ReadsAs (λ (words : Words). words) result right
+
+abbrev pub ReadsNames : Result FoldNames WordsFault → Option FoldNames → Type 0
+ReadsNames result right = ReadsAs (λ (names : FoldNames). names) result right

@@ -9,10 +9,11 @@ ghost use Rattle.mls_result.specs.declared.status.FileRole.{FileRole};
 ghost use Rattle.mls_result.specs.declared.status.Unbuilt.{Unbuilt};
 ghost use Rattle.mls_cli.specs.Words.{words_of};
 ghost use Rattle.mls_cli.specs.Ideal.{right_command, ideal};
-ghost use Rattle.mls_cli.specs.Answers.{Answers, Exactly, IsQuiet, IsRight};
+ghost use Rattle.mls_cli.specs.Answers.{Answers, Carries, Exactly, IsQuiet, IsRight, sink};
+ghost use Rattle.mls_cli.specs.Refusals.{seen};
 
 use crate::design::run_design;
-use crate::fold::{run_fold, run_scheduled};
+use crate::fold::run_fold;
 use crate::watch::run_watch;
 use crate::words::{Words, WordsFault, read_words};
 use mls_base::outside::{Files, Keeper, Sink};
@@ -28,31 +29,26 @@ fn carry_out<F: Files, O: Sink, K: Keeper + Drop>(
     keepers: Vec<K>,
 ) -> (Status, Vec<K>)
     requires { vec_len keepers ≡ 64 }
-    ensures right { (held : Names) → F.held files.old ≡ Some held → Answers (right_command held command) (O.told out.old) (O.told out.new) result.0 }
+    ensures carried { Carries (right_command command)
+        (seen F.held F.load_faults F.save_faults files.old) (seen F.held F.load_faults F.save_faults files.new)
+        (sink O.told O.faults out.old) (sink O.told O.faults out.new) result.0 }
     ensures no_usage { result.0 ≡ Status.Usage → ⊥ }
-    ensures read_fault { result.0 ≡ Status.ReadFault → Rose (F.load_faults files.old) (F.load_faults files.new) }
-    ensures write_fault { result.0 ≡ Status.WriteFault → Rose (O.faults out.old) (O.faults out.new) }
-    ensures quiet { IsQuiet result.0 → O.told out.new ≡ O.told out.old }
     ensures keepers { result.1 ≡ keepers }
-    ensures saves { F.save_faults files.new ≡ F.save_faults files.old }
 {
     match command {
         Words::Fold {
             study,
             tape,
             schedule,
-        } => match schedule {
-            None => return run_fold(alloc, study.as_str(), tape.as_str(), files, out, keepers),
-            Some(schedule) => return run_scheduled(
-                alloc,
-                study.as_str(),
-                tape.as_str(),
-                schedule.as_str(),
-                files,
-                out,
-                keepers,
-            ),
-        },
+        } => return run_fold(
+            alloc,
+            study.as_str(),
+            tape.as_str(),
+            &schedule,
+            files,
+            out,
+            keepers,
+        ),
         Words::Watch { study, events } => {
             let status = run_watch(alloc, study.as_str(), events.as_str(), files, out);
             return (status, keepers);
@@ -77,13 +73,11 @@ fn run<F: Files, O: Sink, K: Keeper + Drop>(
     keepers: Vec<K>,
 ) -> (Status, Vec<K>)
     requires { vec_len keepers ≡ 64 }
-    ensures right { (held : Names) → F.held files.old ≡ Some held → Answers (ideal held (map string_bytes words.now)) (O.told out.old) (O.told out.new) result.0 }
+    ensures carried { Carries (λ held. ideal held (map string_bytes words.now))
+        (seen F.held F.load_faults F.save_faults files.old) (seen F.held F.load_faults F.save_faults files.new)
+        (sink O.told O.faults out.old) (sink O.told O.faults out.new) result.0 }
     ensures usage { (result.0 ≡ Status.Usage) ↔ (words_of (map string_bytes words.now) ≡ None) }
-    ensures read_fault { result.0 ≡ Status.ReadFault → Rose (F.load_faults files.old) (F.load_faults files.new) }
-    ensures write_fault { result.0 ≡ Status.WriteFault → Rose (O.faults out.old) (O.faults out.new) }
-    ensures quiet { IsQuiet result.0 → O.told out.new ≡ O.told out.old }
     ensures keepers { result.1 ≡ keepers }
-    ensures saves { F.save_faults files.new ≡ F.save_faults files.old }
 {
     match read_words(alloc, words) {
         Ok(command) => return carry_out(alloc, command, files, out, keepers),

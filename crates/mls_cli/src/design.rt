@@ -1,13 +1,14 @@
 //! The command `design`.
 
-ghost use Rattle.std.specs.Prelude.{◌≡◌, Some};
-ghost use Rattle.mls_base.specs.Told.{Names, Rose};
+ghost use Rattle.std.specs.Prelude.{◌≡◌};
 ghost use Rattle.mls_model.specs.Designs.{design_text};
 ghost use Rattle.mls_launch.specs.Writing.{WritesOut};
-ghost use Rattle.mls_cli.specs.Ideal.{right_design};
-ghost use Rattle.mls_cli.specs.Answers.{Answers, IsQuiet};
+ghost use Rattle.mls_cli.specs.Design.{right_design};
+ghost use Rattle.mls_cli.specs.Answers.{Carries, sink};
+ghost use Rattle.mls_cli.specs.Refusals.{seen};
 
-use crate::steps::{into_status, load_study, out_status};
+use crate::loading::load_study;
+use crate::written::out_status;
 use mls_base::outside::{Files, Sink};
 use mls_design::{Design, write_design};
 use mls_launch::OutFault;
@@ -33,18 +34,16 @@ pub(crate) fn run_design<F: Files, O: Sink>(
     files: &mut F,
     out: &mut O,
 ) -> Status
-    ensures right { (held : Names) → F.held files.old ≡ Some held → Answers (right_design held study_name.now) (O.told out.old) (O.told out.new) result }
+    ensures carried { Carries (right_design study_name.now)
+        (seen F.held F.load_faults F.save_faults files.old) (seen F.held F.load_faults F.save_faults files.new)
+        (sink O.told O.faults out.old) (sink O.told O.faults out.new) result }
     ensures no_usage { result ≡ Status.Usage → ⊥ }
-    ensures read_fault { result ≡ Status.ReadFault → Rose (F.load_faults files.old) (F.load_faults files.new) }
-    ensures write_fault { result ≡ Status.WriteFault → Rose (O.faults out.old) (O.faults out.new) }
-    ensures quiet { IsQuiet result → O.told out.new ≡ O.told out.old }
-    ensures saves { F.save_faults files.new ≡ F.save_faults files.old }
 {
     match load_study(alloc, files, study_name) {
         Ok(study) => {
             let answer = write_drawn(alloc, &study, out);
             return out_status(answer);
         }
-        Err(refusal) => return into_status(refusal),
+        Err(refusal) => return refusal.into(),
     }
 }

@@ -4,13 +4,16 @@
 mod commands;
 mod design;
 mod fold;
+mod fold_inputs;
+mod loading;
 mod output;
 mod program;
-mod steps;
+mod refusal;
 #[cfg(test)]
 mod tests;
 mod watch;
 mod words;
+mod written;
 
 pub use commands::melissa;
 pub use output::BufferedSink;

@@ -1,28 +1,50 @@
 //! An output that is written in large pieces.
 
-ghost use Rattle.std.specs.Prelude.{◌≡◌, None, IfOk, OnOk, OnErr};
+ghost use Rattle.std.specs.Prelude.{◌≡◌, Some, IfOk, IfSome, OnOk, OnErr};
 ghost use Rattle.std.specs.Io.Buffered.{writer_inner};
 ghost use Rattle.mls_base.specs.Told.{Rose};
+ghost use Rattle.mls_cli.specs.Output.{told_of};
 
 use mls_base::faults::{Failed, NoMemory};
 use mls_base::outside::Sink;
 use std::alloc::Global;
-use std::io::{BufWriter, Write};
+use std::io::{BufWriter, Print, Printer, Write};
 
 /// How many bytes are gathered before they are written out.
 const GATHERED: usize = 65_536;
 
-/// A sink over a writer that gathers what is written and hands it on in large pieces. What it holds it doesn't tell.
+/// A writer that tells what it holds always or never.
+pub trait SteadyWriter: Write {
+    ghost use Rattle.std.specs.Prelude.{◌≡◌, is_some};
+
+    /// What one value tells, each tells.
+    ghost steady: { (v w : Self) → is_some (Self.contents v) ≡ is_some (Self.contents w) };
+}
+
+impl SteadyWriter for Vec<u8> {
+    ghost use Rattle.std.specs.Prelude.{refl};
+
+    ghost steady = { λ v w. refl };
+}
+
+impl<P: Print> SteadyWriter for Printer<'_, P> {
+    ghost use Rattle.std.specs.Prelude.{refl};
+
+    ghost steady = { λ v w. refl };
+}
+
+/// A sink over a writer that gathers what is written and hands it on in large pieces. Until a write fails it tells what the
+/// writer holds and what is gathered, where the writer tells that.
 #[derive(Drop)]
-pub struct BufferedSink<W: Write + Drop> {
+pub struct BufferedSink<W: SteadyWriter + Drop> {
     out: BufWriter<W>,
     faults: u64,
 }
 
-impl<W: Write + Drop> BufferedSink<W> {
+impl<W: SteadyWriter + Drop> BufferedSink<W> {
     /// Nothing is gathered and no write failed so far.
     pub fn new(alloc: Global, out: W) -> Result<BufferedSink<W>, NoMemory>
-        ensures told { IfOk result (λ s. ⟦<BufferedSink<W> as Sink>⟧.told s ≡ None) }
+        ensures told { IfOk result (λ s. ⟦<BufferedSink<W> as Sink>⟧.told s ≡ W.contents out) }
         ensures faults { IfOk result (λ s. ⟦<BufferedSink<W> as Sink>⟧.faults s ≡ 0) }
     {
         match BufWriter::with_capacity(alloc, GATHERED, out) {
@@ -31,8 +53,9 @@ impl<W: Write + Drop> BufferedSink<W> {
         }
     }
 
-    /// Writes out what is still gathered.
+    /// Writes out what is still gathered. After `Ok` the writer holds all that was told.
     pub fn finish(&mut self) -> Result<(), Failed>
+        ensures handed_on { OnOk result (IfSome (⟦<BufferedSink<W> as Sink>⟧.told self.old) (λ bytes. W.contents (writer_inner self.new.out) ≡ Some bytes)) }
         ensures faultless { OnOk result (⟦<BufferedSink<W> as Sink>⟧.faults self.new ≡ ⟦<BufferedSink<W> as Sink>⟧.faults self.old) }
         ensures rose { OnErr result (Rose (⟦<BufferedSink<W> as Sink>⟧.faults self.old) (⟦<BufferedSink<W> as Sink>⟧.faults self.new)) }
     {
@@ -53,10 +76,10 @@ impl<W: Write + Drop> BufferedSink<W> {
     }
 }
 
-impl<W: Write + Drop> Sink for BufferedSink<W> {
+impl<W: SteadyWriter + Drop> Sink for BufferedSink<W> {
     ghost faults = { λ s. s.faults };
 
-    ghost told = { λ s. None };
+    ghost told = { λ s. told_of W.contents s.out s.faults };
 
     ghost sure = { λ s. 0 };
 

@@ -1,9 +1,13 @@
 //! The program `melissa` over the files of the system and standard output.
 
-ghost use Rattle.std.specs.Prelude.{◌≡◌, vec_len, IfOk};
+ghost use Rattle.std.specs.Prelude.{◌≡◌, ℕ, List, ◌++◌, map, string_bytes, vec_len, Some, IfOk, IsOkAnd};
+ghost use Rattle.std.specs.Io.Buffered.{writer_inner};
+ghost use Rattle.mls_base.specs.Told.{Names};
+ghost use Rattle.mls_cli.specs.Ideal.{ideal};
 
 use crate::commands::melissa;
-use crate::output::BufferedSink;
+use crate::output::{BufferedSink, SteadyWriter};
+use mls_base::outside::{Files, Keeper, Sink};
 use mls_base::system::StdFiles;
 use mls_result::Status;
 use mls_slot::{FileDisk, SlotKeeper};
@@ -36,7 +40,29 @@ fn words(rt: &HostRuntime, alloc: Global) -> Result<Vec<String>, Status> {
     }
 }
 
-/// Carries out the command of the program's words. `Done` is answered where all that was printed was also written out.
+/// Carries out the command of the words over a writer. `Done` is answered where the writer was handed all that was written.
+pub(crate) fn run_over<F: Files, W: SteadyWriter + Drop, K: Keeper + Drop>(
+    alloc: Global,
+    words: &[String],
+    files: &mut F,
+    out: &mut BufferedSink<W>,
+    keepers: Vec<K>,
+) -> Status
+    requires { vec_len keepers ≡ 64 }
+    ensures done { (held : Names) → F.held files.old ≡ Some held → (before : List ℕ) → ⟦<BufferedSink<W> as Sink>⟧.told out.old ≡ Some before → result ≡ Status.Done
+        → IsOkAnd (ideal held (map string_bytes words.now)) (λ text. W.contents (writer_inner out.new.out) ≡ Some (before ++ text)) }
+{
+    let (status, _) = melissa(alloc, words, files, out, keepers);
+    match status {
+        Status::Done => match out.finish() {
+            Ok(()) => return Status::Done,
+            Err(_) => return Status::WriteFault,
+        },
+        other => return other,
+    }
+}
+
+/// Carries out the command of the program's words.
 fn answer(rt: &HostRuntime, alloc: Global) -> Result<Status, Status> {
     let words = words(rt, alloc)?;
     let mut files = StdFiles::new(rt);
@@ -46,11 +72,7 @@ fn answer(rt: &HostRuntime, alloc: Global) -> Result<Status, Status> {
     let Ok(keepers) = checkpoint_stores(rt, alloc) else {
         return Err(Status::Memory);
     };
-    let (status, _) = melissa(alloc, words.as_slice(), &mut files, &mut out, keepers);
-    if status.number() == 0 && out.finish().is_err() {
-        return Err(Status::WriteFault);
-    }
-    Ok(status)
+    Ok(run_over(alloc, words.as_slice(), &mut files, &mut out, keepers))
 }
 
 /// The whole program: carries out the command of its words over the files of the system and standard output, prints the reason

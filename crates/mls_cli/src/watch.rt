@@ -1,25 +1,51 @@
 //! The command `watch`.
 
-ghost use Rattle.std.specs.Prelude.{◌≡◌, Some, Ok, IfErr, MatchResult};
-ghost use Rattle.mls_base.specs.Told.{Names, Rose};
+ghost use Rattle.std.specs.Prelude.{◌≡◌, ◌≤◌, length, IfErr};
 ghost use Rattle.mls_model.specs.WatchText.{watch_text};
 ghost use Rattle.mls_launch.specs.Writing.{WritesOut};
-ghost use Rattle.mls_cli.specs.Ideal.{right_watch};
-ghost use Rattle.mls_cli.specs.Answers.{Answers, IsQuiet};
-ghost use Rattle.mls_cli.specs.Refusals.{Counts, IsRefused};
+ghost use Rattle.mls_cli.specs.Watch.{events_limit, content_events, right_events, right_watch};
+ghost use Rattle.mls_cli.specs.Answers.{Carries, sink};
+ghost use Rattle.mls_cli.specs.Refusals.{Agrees, IsOfContent, Loads, seen};
 
-use crate::steps::{Refusal, into_status, load_events, load_study, out_status};
+use crate::loading::{load, load_study};
+use crate::refusal::Refusal;
+use crate::written::out_status;
 use mls_base::outside::{Files, Sink};
-use mls_launch::{Event, OutFault, write_watch};
-use mls_result::Status;
+use mls_launch::{Event, EventFault, OutFault, read_events, write_watch};
+use mls_result::{FileRole, Status};
 use mls_study::Study;
 use std::alloc::Global;
+
+/// The most bytes of an events file.
+const EVENTS_LIMIT: u64 = 16777216;
 
 /// What a watch begins with.
 #[derive(Drop)]
 struct WatchInputs {
     study: Study,
     events: Vec<Event>,
+}
+
+/// The events in these bytes.
+fn events_in(alloc: Global, bytes: &[u8]) -> Result<Vec<Event>, Refusal>
+    requires { length bytes.now ≤ events_limit }
+    ensures right { Agrees (λ e. e.items) result (content_events bytes.now) }
+    ensures content { IfErr result IsOfContent }
+{
+    match read_events(alloc, bytes) {
+        Ok(events) => return Ok(events),
+        Err(EventFault::Line { line }) => return Err(Refusal::Events { line }),
+        Err(EventFault::Memory) => return Err(Refusal::Memory),
+    }
+}
+
+/// The events of a name.
+fn load_events<F: Files>(alloc: Global, files: &mut F, name: &str) -> Result<Vec<Event>, Refusal>
+    ensures { Loads (λ e. e.items) (right_events name.now)
+        (seen F.held F.load_faults F.save_faults files.old) (seen F.held F.load_faults F.save_faults files.new) result }
+{
+    let bytes = load(alloc, files, name, EVENTS_LIMIT, FileRole::Events)?;
+    events_in(alloc, bytes.as_slice())
 }
 
 /// The study and the events of these names.
@@ -29,11 +55,8 @@ fn load_inputs<F: Files>(
     study_name: &str,
     events_name: &str,
 ) -> Result<WatchInputs, Refusal>
-    ensures right { (held : Names) → F.held files.old ≡ Some held → MatchResult result
-        (λ inputs. right_watch held study_name.now events_name.now ≡ Ok (watch_text inputs.study.sizes inputs.events.items))
-        (λ r. IsRefused r (right_watch held study_name.now events_name.now)) }
-    ensures loads { IfErr result (λ r. Counts r (F.load_faults files.old) (F.load_faults files.new)) }
-    ensures saves { F.save_faults files.new ≡ F.save_faults files.old }
+    ensures { Loads (λ (inputs : WatchInputs). watch_text inputs.study.sizes inputs.events.items) (right_watch study_name.now events_name.now)
+        (seen F.held F.load_faults F.save_faults files.old) (seen F.held F.load_faults F.save_faults files.new) result }
 {
     let study = load_study(alloc, files, study_name)?;
     let events = load_events(alloc, files, events_name)?;
@@ -56,18 +79,16 @@ pub(crate) fn run_watch<F: Files, O: Sink>(
     files: &mut F,
     out: &mut O,
 ) -> Status
-    ensures right { (held : Names) → F.held files.old ≡ Some held → Answers (right_watch held study_name.now events_name.now) (O.told out.old) (O.told out.new) result }
+    ensures carried { Carries (right_watch study_name.now events_name.now)
+        (seen F.held F.load_faults F.save_faults files.old) (seen F.held F.load_faults F.save_faults files.new)
+        (sink O.told O.faults out.old) (sink O.told O.faults out.new) result }
     ensures no_usage { result ≡ Status.Usage → ⊥ }
-    ensures read_fault { result ≡ Status.ReadFault → Rose (F.load_faults files.old) (F.load_faults files.new) }
-    ensures write_fault { result ≡ Status.WriteFault → Rose (O.faults out.old) (O.faults out.new) }
-    ensures quiet { IsQuiet result → O.told out.new ≡ O.told out.old }
-    ensures saves { F.save_faults files.new ≡ F.save_faults files.old }
 {
     match load_inputs(alloc, files, study_name, events_name) {
         Ok(inputs) => {
             let answer = write_inputs(alloc, &inputs, out);
             return out_status(answer);
         }
-        Err(refusal) => return into_status(refusal),
+        Err(refusal) => return refusal.into(),
     }
 }

@@ -3,7 +3,7 @@
 ghost use Rattle.std.specs.Prelude.{◌≡◌, ◌^◌, map, string_bytes, Some, None, MatchResult};
 ghost use Rattle.std.specs.List.{list_all};
 ghost use Rattle.mls_text.specs.Decimals.{number_below};
-ghost use Rattle.mls_cli.specs.Words.{is_word, fold_in, design_in, trial_in, watch_in, bins_in, export_in, resume_in, command_in, words_of, Reads};
+ghost use Rattle.mls_cli.specs.Words.{is_word, fold_names, fold_in, design_in, trial_in, watch_in, bins_in, export_in, resume_in, command_in, words_of, Reads, ReadsNames};
 
 use mls_study::Name;
 use mls_text::{canonical_number, small_canonical_number};
@@ -61,6 +61,14 @@ pub enum Words {
     },
 }
 
+/// The names of a study, a tape and, if there is one, a schedule.
+#[derive(Debug, Drop)]
+struct FoldNames {
+    study: Name,
+    tape: Name,
+    schedule: Option<Name>,
+}
+
 /// Why words are no command.
 #[derive(Clone, Copy, Debug, PartialEq, Eq)]
 pub enum WordsFault {
@@ -103,15 +111,15 @@ fn are_words(names: &[String]) -> bool
     true
 }
 
-/// The names behind the word `fold`.
-fn fold_in(alloc: Global, names: &[String]) -> Result<Words, WordsFault>
-    ensures { Reads result (fold_in (map string_bytes names.now)) }
+/// The names behind the words `fold` and `bins`.
+fn fold_names(alloc: Global, names: &[String]) -> Result<FoldNames, WordsFault>
+    ensures { ReadsNames result (fold_names (map string_bytes names.now)) }
 {
     match names {
         [study, tape] => {
             let study = Name::new(alloc, study.as_str())?;
             let tape = Name::new(alloc, tape.as_str())?;
-            return Ok(Words::Fold {
+            return Ok(FoldNames {
                 study,
                 tape,
                 schedule: None,
@@ -121,7 +129,7 @@ fn fold_in(alloc: Global, names: &[String]) -> Result<Words, WordsFault>
             let study = Name::new(alloc, study.as_str())?;
             let tape = Name::new(alloc, tape.as_str())?;
             let schedule = Some(Name::new(alloc, schedule.as_str())?);
-            return Ok(Words::Fold {
+            return Ok(FoldNames {
                 study,
                 tape,
                 schedule,
@@ -129,6 +137,22 @@ fn fold_in(alloc: Global, names: &[String]) -> Result<Words, WordsFault>
         }
         _ => return Err(WordsFault::Usage),
     }
+}
+
+/// The names behind the word `fold`.
+fn fold_in(alloc: Global, names: &[String]) -> Result<Words, WordsFault>
+    ensures { Reads result (fold_in (map string_bytes names.now)) }
+{
+    let FoldNames {
+        study,
+        tape,
+        schedule,
+    } = fold_names(alloc, names)?;
+    Ok(Words::Fold {
+        study,
+        tape,
+        schedule,
+    })
 }
 
 /// The name behind the word `design`.
@@ -148,20 +172,14 @@ fn design_in(alloc: Global, names: &[String]) -> Result<Words, WordsFault>
 fn number_of(word: &str) -> Result<u64, WordsFault>
     ensures { MatchResult result (λ n. number_below (2 ^ 64) word.now ≡ Some n) (λ fault. (fault ≡ WordsFault.Usage) × (number_below (2 ^ 64) word.now ≡ None)) }
 {
-    match canonical_number(word.as_bytes()) {
-        Some(number) => return Ok(number),
-        None => return Err(WordsFault::Usage),
-    }
+    canonical_number(word.as_bytes()).ok_or(WordsFault::Usage)
 }
 
 /// A number below 2^32.
 fn small_number_of(word: &str) -> Result<u32, WordsFault>
     ensures { MatchResult result (λ n. number_below (2 ^ 32) word.now ≡ Some n) (λ fault. (fault ≡ WordsFault.Usage) × (number_below (2 ^ 32) word.now ≡ None)) }
 {
-    match small_canonical_number(word.as_bytes()) {
-        Some(number) => return Ok(number),
-        None => return Err(WordsFault::Usage),
-    }
+    small_canonical_number(word.as_bytes()).ok_or(WordsFault::Usage)
 }
 
 /// The words behind `trial`.
@@ -211,28 +229,16 @@ fn watch_in(alloc: Global, names: &[String]) -> Result<Words, WordsFault>
 fn bins_in(alloc: Global, names: &[String]) -> Result<Words, WordsFault>
     ensures { Reads result (bins_in (map string_bytes names.now)) }
 {
-    match names {
-        [study, tape] => {
-            let study = Name::new(alloc, study.as_str())?;
-            let tape = Name::new(alloc, tape.as_str())?;
-            return Ok(Words::Bins {
-                study,
-                tape,
-                schedule: None,
-            });
-        }
-        [study, tape, schedule] => {
-            let study = Name::new(alloc, study.as_str())?;
-            let tape = Name::new(alloc, tape.as_str())?;
-            let schedule = Some(Name::new(alloc, schedule.as_str())?);
-            return Ok(Words::Bins {
-                study,
-                tape,
-                schedule,
-            });
-        }
-        _ => return Err(WordsFault::Usage),
-    }
+    let FoldNames {
+        study,
+        tape,
+        schedule,
+    } = fold_names(alloc, names)?;
+    Ok(Words::Bins {
+        study,
+        tape,
+        schedule,
+    })
 }
 
 /// The names behind the word `export`.

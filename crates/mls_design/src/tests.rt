@@ -13,13 +13,13 @@ const TWO_GROUPS_TEXT: &[u8] =
 const TWO_GROUPS: &[u8] =
     b"cells = 1\nsteps = 1\ngroups = 2\nseed = 42\n[[parameters]]\nname = \"x\"\nlow = 0\nhigh = 4294967295\n";
 
-fn study(alloc: Global) -> Result<Study, Fail> {
-    Ok(read_study(alloc, TWO_GROUPS).ok().ok_or("a study")?)
+fn study(alloc: Global, text: &[u8]) -> Result<Study, Fail> {
+    Ok(read_study(alloc, text).ok().ok_or("a study")?)
 }
 
 #[test]
 fn design_of_two_groups(rt: HostRuntime) -> Result<(), Fail> {
-    let study = study(rt.alloc())?;
+    let study = study(rt.alloc(), TWO_GROUPS)?;
     let design = Design::new(rt.alloc(), &study).ok().ok_or("memory")?;
     let mut out = MemSink::new(rt.alloc(), 1000, Vec::new(rt.alloc()))
         .ok()
@@ -31,7 +31,7 @@ fn design_of_two_groups(rt: HostRuntime) -> Result<(), Fail> {
 
 #[test]
 fn piece_of_a_group(rt: HostRuntime) -> Result<(), Fail> {
-    let study = study(rt.alloc())?;
+    let study = study(rt.alloc(), TWO_GROUPS)?;
     study.valid();
     let design = Design::new(rt.alloc(), &study).ok().ok_or("memory")?;
     let frame = make_piece(rt.alloc(), &study, &design, 0, 1, 0, 0, 0, 0)

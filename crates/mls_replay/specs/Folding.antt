@@ -1,9 +1,6 @@
 -- What a fold answers.
-use Rattle.std.specs.Prelude.{◌≡◌, ℕ, List, [], Option, Result, Ok, Err, unwrap_or}
+use Rattle.std.specs.Prelude.{◌≡◌, ℕ, List, Option, Result, Ok, Err}
 use Rattle.mls_base.specs.Told.{appended, WroteFront, Rose}
-use Rattle.mls_model.specs.Numbers.{element}
-use Rattle.mls_model.specs.Lanes.{Lane}
-use Rattle.mls_model.specs.Histories.{LaneEvent, history}
 use Rattle.mls_result.specs.declared.fault.FoldFault.{FoldFault}
 use Rattle.mls_result.specs.declared.fault.FoldFault.TheVariants.{WriteFault, Memory}
 
@@ -12,3 +9,7 @@ abbrev pub Folds : {A : Type 0} → Result A FoldFault → List ℕ → Option (
 Folds (Ok done) text old new before now = (new ≡ appended old text) × (now ≡ before)
 Folds (Err WriteFault) text old new before now = WroteFront old new text × Rose before now
 Folds (Err Memory) text old new before now = (new ≡ old) × (now ≡ before)
+
+-- the same of a sink, of which it is told what it holds and how many faults it had
+abbrev pub FoldsTo : {A S : Type 0} → (S → Option (List ℕ)) → (S → ℕ) → S → S → Result A FoldFault → List ℕ → Type 0
+FoldsTo told faults old new result text = Folds result text (told old) (told new) (faults old) (faults new)

@@ -5,7 +5,7 @@ ghost use Rattle.mls_model.specs.Schedules.{is_legal};
 ghost use Rattle.mls_model.specs.ResultText.{histories_of, order_at, result_text, lines_of};
 ghost use Rattle.mls_result.specs.Histories.{AreCores, AllStand};
 ghost use Rattle.mls_replay.specs.Calm.{is_calm};
-ghost use Rattle.mls_replay.specs.Folding.{Folds};
+ghost use Rattle.mls_replay.specs.Folding.{FoldsTo};
 
 use crate::ranks::run_rank;
 use mls_base::faults::NoMemory;
@@ -84,7 +84,7 @@ fn write_cores<O: Sink>(
     requires cores { AreCores study.now.sizes cores.now }
     requires stand { AllStand cores.now (histories_of tape.now.lanes schedule.now) }
     requires lines { lines.now ≡ lines_of tape.now.lanes }
-    ensures { Folds result (result_text study.now tape.now.lanes schedule.now) (O.told out.old) (O.told out.new) (O.faults out.old) (O.faults out.new) }
+    ensures { FoldsTo O.told O.faults out.old out.new result (result_text study.now tape.now.lanes schedule.now) }
 {
     match write_result(study, cores, lines, out) {
         Ok(()) => return Ok(()),
@@ -105,7 +105,7 @@ pub fn fold<K: Keeper + Drop, O: Sink>(
     requires keepers { vec_len keepers ≡ 64 }
     requires legal { is_legal study.now.sizes.ranks tape.now.lanes schedule.now ≡ true }
     requires calm { is_calm tape.now.lanes ≡ true }
-    ensures text { Folds result.0 (result_text study.now tape.now.lanes schedule.now) (O.told out.old) (O.told out.new) (O.faults out.old) (O.faults out.new) }
+    ensures text { FoldsTo O.told O.faults out.old out.new result.0 (result_text study.now tape.now.lanes schedule.now) }
     ensures keepers { result.1 ≡ keepers }
 {
     let lines = match lines_of(alloc, tape) {

@@ -33,7 +33,8 @@ fn take_event<F: RowFold>(
     ensures rank { rank_of core.new ≡ rank_of core.old }
     ensures counted { OnOk result (AreTaken taken.new (length tape.now.lanes) (take (place + 1) order.now)) }
     ensures room { total_count (counts_of core.new) ≤ place + 1 }
-    ensures stands { StandsFor core.old (history tape.now.lanes (take place order.now)) → OnOk result (StandsFor core.new (history tape.now.lanes (take (place + 1) order.now))) }
+    ensures stands { StandsFor core.old (history tape.now.lanes (take place order.now))
+        → OnOk result (StandsFor core.new (history tape.now.lanes (take (place + 1) order.now))) }
 {
     let lane = order[place];
     let number = taken[lane as usize];

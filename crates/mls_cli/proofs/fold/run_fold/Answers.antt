@@ -1,9 +1,15 @@
 -- What a fold answers is right.
-use Rattle.mls_model.specs.Schedules.{plain}
-use Rattle.mls_model.specs.ResultText.{result_text}
+use Rattle.mls_cli.proofs.Carrying.{carried_refused, no_usage}
+use Rattle.mls_cli.proofs.Folded.{carried_fold}
 use Rattle.mls_cli.proofs.fold.run_fold.Goals as goal
-use Rattle.mls_cli.proofs.Agreeing.{folded}
 
-pub returns-in-Ok-clause-right : goal.returns-in-Ok-clause-right
-returns-in-Ok-clause-right g c held told =
-    rw (c.fold_status.ensures) (folded _ (result_text c.in-Ok.inputs.study c.in-Ok.inputs.tape.lanes (plain c.in-Ok.inputs.study.sizes.ranks c.in-Ok.inputs.tape.lanes)) _ _ _ _ _ c.fold_plain-answer.result.0 (c.in-Ok.ensures.right held told) c.fold_plain-answer.ensures.text)
+pub returns-in-Err-clause-carried : goal.returns-in-Err-clause-carried
+returns-in-Err-clause-carried g c =
+    rw (c.into.ensures) (carried_refused _ _ _ _ _ c.in-Err.refusal c.in-Err.ensures.loads)
+
+pub returns-in-Err-clause-no_usage : goal.returns-in-Err-clause-no_usage
+returns-in-Err-clause-no_usage g c = rw (c.into.ensures) (no_usage c.in-Err.refusal)
+
+pub returns-clause-carried : goal.returns-clause-carried
+returns-clause-carried g c =
+    rw (c.fold_status.ensures) (carried_fold _ _ _ _ _ _ c.in-Ok.inputs c.fold-answer.result.0 c.in-Ok.ensures.loads c.fold-answer.ensures.text)

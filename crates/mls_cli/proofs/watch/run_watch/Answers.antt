@@ -1,8 +1,14 @@
 -- What a watch answers is right.
-use Rattle.mls_model.specs.WatchText.{watch_text}
+use Rattle.mls_cli.proofs.Carrying.{carried_out, carried_refused, no_usage}
 use Rattle.mls_cli.proofs.watch.run_watch.Goals as goal
-use Rattle.mls_cli.proofs.Agreeing.{wrote_out}
 
-pub returns-in-Ok-clause-right : goal.returns-in-Ok-clause-right
-returns-in-Ok-clause-right g c held told =
-    rw (c.out_status.ensures) (wrote_out _ (watch_text c.in-Ok.inputs.study.sizes c.in-Ok.inputs.events.items) _ _ _ _ _ c.write_inputs-answer.result (c.in-Ok.ensures.right held told) c.write_inputs-answer.ensures)
+pub returns-in-Ok-clause-carried : goal.returns-in-Ok-clause-carried
+returns-in-Ok-clause-carried g c =
+    rw (c.out_status.ensures) (carried_out _ _ _ _ _ _ c.in-Ok.inputs c.write_inputs-answer.result c.in-Ok.ensures c.write_inputs-answer.ensures)
+
+pub returns-in-Err-clause-carried : goal.returns-in-Err-clause-carried
+returns-in-Err-clause-carried g c =
+    rw (c.into.ensures) (carried_refused _ _ _ _ _ c.in-Err.refusal c.in-Err.ensures)
+
+pub returns-in-Err-clause-no_usage : goal.returns-in-Err-clause-no_usage
+returns-in-Err-clause-no_usage g c = rw (c.into.ensures) (no_usage c.in-Err.refusal)

@@ -1,0 +1,60 @@
+//! Carries out the command of each line of the input, over the files that lie where it runs, and prints after the line how
+//! it went and what was written. The kept run has the rows of folds, schedules, watches, designs, words and refusals.
+#![tactic(auto)]
+
+ghost use Rattle.std.specs.Prelude.{◌≡◌, vec_len, IfOk};
+
+use mls_base::memory::{MemKeeper, MemSink};
+use mls_base::system::StdFiles;
+use mls_cli::melissa;
+use std::alloc::{AllocError, Global};
+use std::io;
+
+/// How many bytes a row may write.
+const ROOM: u64 = 65_536;
+
+/// A keeper in memory for each rank there may be, none of which holds anything.
+fn no_checkpoints(alloc: Global) -> Result<Vec<MemKeeper>, AllocError>
+    ensures { IfOk result (λ keepers. vec_len keepers ≡ 64) }
+{
+    let mut keepers = Vec::new(alloc);
+    for _ in 0..64_u32 {
+        keepers.push(MemKeeper::new(alloc, Vec::new(alloc)))?;
+    }
+    Ok(keepers)
+}
+
+/// The words of a line, one space between each two.
+fn words_of(alloc: Global, line: &str) -> Result<Vec<String>, AllocError> {
+    let mut words = Vec::new(alloc);
+    for word in line.split(' ') {
+        words.push(String::from_str(alloc, word)?)?;
+    }
+    Ok(words)
+}
+
+/// Carries out a line's command and prints what came of it.
+fn print_row(rt: &HostRuntime, alloc: Global, line: &str) -> io::Result<()> {
+    let words = words_of(alloc, line)?;
+    let keepers = no_checkpoints(alloc)?;
+    let mut files = StdFiles::new(rt);
+    let Ok(mut sink) = MemSink::new(alloc, ROOM, Vec::new(alloc)) else {
+        return println!(rt; "out of memory");
+    };
+    let (status, _) = melissa(alloc, words.as_slice(), &mut files, &mut sink, keepers);
+    println!(rt; "> {line}")?;
+    println!(rt; "{}: {status}", status.number())?;
+    match std::str::from_utf8(sink.bytes()) {
+        Ok(text) => print!(rt; "{text}"),
+        Err(_) => println!(rt; "no text"),
+    }
+}
+
+fn main(rt: HostRuntime) -> io::Result<()> {
+    let alloc = rt.alloc();
+    for line in rt.lines(alloc) {
+        let line = line?;
+        print_row(&rt, alloc, line.as_str())?;
+    }
+    Ok(())
+}
