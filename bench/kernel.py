@@ -13,7 +13,7 @@ import time
 
 HERE = os.path.dirname(os.path.abspath(__file__))
 ROOT = os.path.join(HERE, "..")
-CRATES = ["mls_model", "mls_base", "mls_cov"]
+CRATES = ["mls_model", "mls_base", "mls_power", "mls_cov"]
 MANY, FEW = 3000, 1000
 PAIRS = 32_767
 
