@@ -13,5 +13,3 @@ pub use group_step::GroupStep;
 pub use pending::Pending;
 pub use pending_rows::PendingRows;
 
-#[cfg(test)]
-mod tests;

@@ -16,7 +16,5 @@ pub mod rows;
 pub mod samples;
 pub mod shape;
 pub mod system;
-#[cfg(test)]
-mod tests;
 
 pub use mls_model::blocks::Span;

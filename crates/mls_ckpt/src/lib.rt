@@ -5,8 +5,6 @@ pub mod faults;
 pub mod laws;
 pub mod put;
 pub mod take;
-#[cfg(test)]
-mod tests;
 
 pub use faults::{CkptWhy, RecoverFault, TakeFault};
 pub use put::Put;

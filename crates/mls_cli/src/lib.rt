@@ -9,13 +9,11 @@ mod loading;
 mod output;
 mod program;
 mod refusal;
-#[cfg(test)]
-mod tests;
 mod watch;
 mod words;
 mod written;
 
 pub use commands::melissa;
 pub use output::BufferedSink;
-pub use program::run_program;
+pub use program::{run_over, run_program};
 pub use words::{NamePair, Words, WordsFault, read_words};

@@ -41,7 +41,7 @@ fn words(rt: &HostRuntime, alloc: Global) -> Result<Vec<String>, Status> {
 }
 
 /// Carries out the command of the words over a writer. `Done` is answered where the writer was handed all that was written.
-pub(crate) fn run_over<F: Files, W: SteadyWriter + Drop, K: Keeper + Drop>(
+pub fn run_over<F: Files, W: SteadyWriter + Drop, K: Keeper + Drop>(
     alloc: Global,
     words: &[String],
     files: &mut F,

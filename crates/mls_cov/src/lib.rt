@@ -6,7 +6,5 @@ pub mod laws;
 pub mod martinez;
 pub mod ranges;
 pub mod sums;
-#[cfg(test)]
-mod tests;
 
 pub use martinez::{IndexParts, Martinez, Sum};

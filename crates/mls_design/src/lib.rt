@@ -18,5 +18,3 @@ pub use piece::make_piece;
 pub use solver::solve;
 pub use text::write_design;
 
-#[cfg(test)]
-mod tests;

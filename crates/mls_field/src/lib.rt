@@ -7,5 +7,3 @@ mod ends;
 pub mod field;
 pub mod fold;
 mod gathered;
-#[cfg(test)]
-mod tests;

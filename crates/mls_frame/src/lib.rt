@@ -17,5 +17,3 @@ pub use mls_model::lanes::FrameFault;
 pub use piece_view::PieceView;
 pub use putting::put;
 
-#[cfg(test)]
-mod tests;

@@ -21,5 +21,3 @@ pub use totals::Totals;
 pub use watch::Watch;
 pub use writing::write_watch;
 
-#[cfg(test)]
-mod tests;

@@ -5,5 +5,3 @@ pub mod marks;
 
 pub use marks::Marks;
 
-#[cfg(test)]
-mod tests;

@@ -8,5 +8,3 @@ pub mod texts;
 pub use fractions::{digits12, rho6, root};
 pub use texts::{Digits, put_decimal, put_millionths};
 
-#[cfg(test)]
-mod tests;

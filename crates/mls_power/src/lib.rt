@@ -9,5 +9,3 @@ pub mod extrema;
 pub mod laws;
 pub mod power;
 pub mod sums;
-#[cfg(test)]
-mod tests;

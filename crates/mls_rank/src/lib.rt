@@ -3,8 +3,6 @@
 
 mod counting;
 pub mod rank_core;
-#[cfg(test)]
-mod tests;
 
 pub use mls_model::lanes::LaneKind;
 pub use mls_model::outcomes::{Counts, Outcome, Reason};

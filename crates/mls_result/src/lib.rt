@@ -10,8 +10,6 @@ mod indices;
 mod lines;
 mod ranks;
 mod status;
-#[cfg(test)]
-mod tests;
 mod text;
 
 pub use fault::FoldFault;

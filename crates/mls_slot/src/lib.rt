@@ -8,8 +8,6 @@ mod heads;
 pub mod keeper;
 pub mod laws;
 pub mod memory;
-#[cfg(test)]
-mod tests;
 
 pub use disk::Disk;
 pub use files::FileDisk;

@@ -194,7 +194,7 @@ pub struct MemDisk {
     zero: Area,
     one: Area,
     past: Vec<Past>,
-    pub(crate) calls: Calls,
+    calls: Calls,
     faults: u64,
     tells: bool,
 }
@@ -219,6 +219,20 @@ impl MemDisk {
             faults: 0,
             tells: true,
         }
+    }
+
+    /// The same disk, of whose further calls, numbered from 0, these are to fail.
+    pub fn with_fails(self, fails: Vec<u64>) -> MemDisk
+        ensures zero { result.zero ≡ self.zero }
+        ensures one { result.one ≡ self.one }
+        ensures past { result.past ≡ self.past }
+        ensures tells { result.tells ≡ self.tells }
+        ensures faults { result.faults ≡ self.faults }
+        ensures calls { result.calls.fails ≡ fails }
+    {
+        let mut disk = self;
+        disk.calls = Calls::new(fails);
+        disk
     }
 
     /// What a crash may leave: `pick` chooses what became of each write since the last sync.

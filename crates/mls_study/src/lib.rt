@@ -8,8 +8,6 @@ mod parameter_places;
 mod read;
 mod study;
 mod tables;
-#[cfg(test)]
-mod tests;
 mod unknown_keys;
 mod values;
 

@@ -19,5 +19,3 @@ pub use schedule::Schedule;
 pub use tape::Tape;
 pub use wire::Wire;
 
-#[cfg(test)]
-mod tests;
