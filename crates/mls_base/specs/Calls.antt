@@ -1,7 +1,7 @@
 -- Numbered calls, of which some are to fail, and what a fault says of them.
-use Rattle.std.specs.Prelude.{◌≡◌, ℕ, Bool, true, false, List, [], ◌∷◌, Option, None, Result, Ok, Err, MatchResult, nat_lt, ◌==◌}
+use Rattle.std.specs.Prelude.{◌≡◌, ℕ, Bool, true, false, List, [], ◌∷◌, Option, None, Result, Ok, Err, nat_lt, ◌==◌}
 use Rattle.std.specs.List.{list_any, list_all}
-use Rattle.mls_base.specs.Told.{raised, LoadCounts, StoreCounts}
+use Rattle.mls_base.specs.Told.{raised}
 use Rattle.mls_base.specs.declared.calls.Calls.{Calls}
 use Rattle.mls_base.specs.declared.faults.LoadFault.{LoadFault}
 use Rattle.mls_base.specs.declared.faults.LoadFault.TheVariants as load
@@ -45,11 +45,3 @@ abbrev pub FailsWhereDue : {A : Type 0} → Result A StoreFault → Bool → Typ
 FailsWhereDue (Ok done) due = due ≡ false
 FailsWhereDue (Err store.Failed) due = due ≡ true
 FailsWhereDue (Err store.Memory) due = due ≡ false
-
--- the count of failed loads after one that answered this
-abbrev pub CountsLoad : {A : Type 0} → Result A LoadFault → ℕ → ℕ → Type 0
-CountsLoad result before now = MatchResult result (λ _. now ≡ before) (λ fault. LoadCounts fault before now)
-
--- the count of failed calls after one that answered this
-abbrev pub CountsStore : {A : Type 0} → Result A StoreFault → ℕ → ℕ → Type 0
-CountsStore result before now = MatchResult result (λ _. now ≡ before) (λ fault. StoreCounts fault before now)

@@ -1,5 +1,5 @@
 -- What the objects of the outside tell of themselves, and their counts of faults.
-use Rattle.std.specs.Prelude.{◌≡◌, ◌≢◌, ℕ, Bool, false, ◌+◌, ◌<◌, ◌≤◌, min, max, List, ◌++◌, length, Option, Some, None, IfSome, IsSomeAnd, IsTrue, ⊤}
+use Rattle.std.specs.Prelude.{◌≡◌, ◌≢◌, ℕ, Bool, false, ◌+◌, ◌<◌, ◌≤◌, min, max, List, ◌++◌, length, Option, Some, None, IfSome, IsSomeAnd, IsTrue, ⊤, Result, MatchResult}
 use Rattle.mls_base.specs.declared.faults.LoadFault.{LoadFault}
 use Rattle.mls_base.specs.declared.faults.LoadFault.TheVariants as load
 use Rattle.mls_base.specs.declared.faults.StoreFault.{StoreFault}
@@ -81,6 +81,10 @@ LoadCounts load.Failed before now = Rose before now
 LoadCounts load.TooLong before now = now ≡ before
 LoadCounts load.Memory before now = now ≡ before
 
+-- the count of failed loads after one that answered this
+abbrev pub CountsLoad : {A : Type 0} → Result A LoadFault → ℕ → ℕ → Type 0
+CountsLoad result before now = MatchResult result (λ _. now ≡ before) (λ fault. LoadCounts fault before now)
+
 -- what a get that is refused leaves of what was told
 abbrev pub GetLeaves : {A : Type 0} → StoreFault → Option A → Option A → Type 0
 GetLeaves store.Failed old new = MayCease old new
@@ -95,6 +99,10 @@ SaveLeaves store.Memory name old new = new ≡ old
 abbrev pub StoreCounts : StoreFault → ℕ → ℕ → Type 0
 StoreCounts store.Failed before now = Rose before now
 StoreCounts store.Memory before now = now ≡ before
+
+-- the count of failed calls after one that answered this
+abbrev pub CountsStore : {A : Type 0} → Result A StoreFault → ℕ → ℕ → Type 0
+CountsStore result before now = MatchResult result (λ _. now ≡ before) (λ fault. StoreCounts fault before now)
 
 -- what was sound is sound
 abbrev pub StaysSound : Bool → Bool → Type 0

@@ -1,4 +1,7 @@
-//! The plain refusals.
+//! The plain refusals, and how failures are counted.
+
+ghost use Rattle.std.specs.Prelude.{◌≡◌, Ok, Err, is_err, IfOk, OnOk, OnErr};
+ghost use Rattle.mls_base.specs.Told.{raised, Rose};
 
 use std::alloc::{AllocError, AllocFailed};
 
@@ -30,6 +33,28 @@ pub enum StoreFault {
     Memory,
 }
 
+/// Counts one more fault, and gives it as the answer. The count stays at its last value.
+pub fn fail<T: Drop, E>(faults: &mut u64, fault: E) -> Result<T, E>
+    ensures answer { result ≡ Err fault }
+    ensures count { faults.new ≡ raised faults.old }
+{
+    *faults = faults.saturating_add(1);
+    Err(fault)
+}
+
+/// The answer of a call, where a failure counts as one more fault.
+pub fn counted<T: Drop, E: Drop>(faults: &mut u64, answer: Result<T, E>) -> Result<T, Failed>
+    ensures fails { is_err result ≡ is_err answer }
+    ensures value { IfOk result (λ value. answer ≡ Ok value) }
+    ensures faultless { OnOk result (faults.new ≡ faults.old) }
+    ensures rose { OnErr result (Rose faults.old faults.new) }
+{
+    match answer {
+        Ok(value) => Ok(value),
+        Err(_) => fail(faults, Failed),
+    }
+}
+
 impl From<AllocError> for NoMemory {
     fn from(_error: AllocError) -> NoMemory {
         NoMemory
@@ -53,17 +78,6 @@ impl From<AllocError> for LoadFault {
     }
 }
 
-impl From<NoMemory> for LoadFault {
-    ghost use Rattle.std.specs.Prelude.{◌≡◌};
-    ghost use Rattle.mls_base.specs.declared.faults.LoadFault.TheVariants.{Memory};
-
-    ghost from_gives = { λ _ fault. fault ≡ Memory };
-
-    fn from(_error: NoMemory) -> LoadFault {
-        LoadFault::Memory
-    }
-}
-
 impl From<AllocError> for StoreFault {
     ghost use Rattle.std.specs.Prelude.{◌≡◌};
     ghost use Rattle.mls_base.specs.declared.faults.StoreFault.TheVariants.{Memory};
@@ -71,17 +85,6 @@ impl From<AllocError> for StoreFault {
     ghost from_gives = { λ _ fault. fault ≡ Memory };
 
     fn from(_error: AllocError) -> StoreFault {
-        StoreFault::Memory
-    }
-}
-
-impl From<NoMemory> for StoreFault {
-    ghost use Rattle.std.specs.Prelude.{◌≡◌};
-    ghost use Rattle.mls_base.specs.declared.faults.StoreFault.TheVariants.{Memory};
-
-    ghost from_gives = { λ _ fault. fault ≡ Memory };
-
-    fn from(_error: NoMemory) -> StoreFault {
         StoreFault::Memory
     }
 }

@@ -4,7 +4,7 @@
 ghost use Rattle.std.specs.Prelude.{◌≤◌, vec_len, vec_capacity};
 
 use crate::calls::Calls;
-use crate::faults::{Failed, LoadFault, NoMemory, StoreFault};
+use crate::faults::{Failed, LoadFault, NoMemory, StoreFault, fail};
 use crate::outside::{Files, Keeper, Sink};
 use std::alloc::Global;
 use std::collections::BTreeMap;
@@ -78,8 +78,7 @@ impl Sink for MemSink {
     {
         let room = self.room as usize - self.bytes.len();
         if self.calls.is_next_to_fail() || room == 0 {
-            self.faults = self.faults.saturating_add(1);
-            return Err(Failed);
+            return fail(&mut self.faults, Failed);
         }
         let n = piece.len().min(room);
         self.bytes.extend_from_slice(piece.split_at(n).0).unwrap();
@@ -147,9 +146,9 @@ impl Files for MemFiles {
     ghost use Rattle.std.specs.Prelude.{◌≡◌, ◌≤◌, false, Some, IfOk, IfSome, OnOk, OnErr, IfErr, MatchResult};
     ghost use Rattle.std.specs.Option.{option_map};
     ghost use Rattle.mls_base.specs.Memory.{names_of};
-    ghost use Rattle.mls_base.specs.Told.{Saved, SaveLeaves, LoadRefused};
+    ghost use Rattle.mls_base.specs.Told.{Saved, SaveLeaves, LoadRefused, CountsLoad, CountsStore};
     ghost use Rattle.mls_base.specs.Told.{StaysSound, SoundLoad, SoundStore};
-    ghost use Rattle.mls_base.specs.Calls.{next_fails, none_ahead, Counted, LoadFails, FailsWhereDue, CountsLoad, CountsStore};
+    ghost use Rattle.mls_base.specs.Calls.{next_fails, none_ahead, Counted, LoadFails, FailsWhereDue};
 
     ghost load_faults = { λ f. f.load_faults };
 
@@ -174,20 +173,15 @@ impl Files for MemFiles {
         ensures saves { self.new.save_faults ≡ self.old.save_faults }
     {
         if self.calls.is_next_to_fail() {
-            self.load_faults = self.load_faults.saturating_add(1);
-            return Err(LoadFault::Failed);
+            return fail(&mut self.load_faults, LoadFault::Failed);
         }
         let Some(bytes) = self.held.get(name) else {
-            self.load_faults = self.load_faults.saturating_add(1);
-            return Err(LoadFault::Failed);
+            return fail(&mut self.load_faults, LoadFault::Failed);
         };
         if bytes.len() as u64 > max {
             return Err(LoadFault::TooLong);
         }
-        match Vec::from_slice(alloc, bytes.as_slice()) {
-            Ok(copy) => Ok(copy),
-            Err(_) => Err(LoadFault::Memory),
-        }
+        Ok(Vec::from_slice(alloc, bytes.as_slice())?)
     }
 
     /// Fails exactly where the call is to fail. A save that fails leaves its own name as before too.
@@ -203,8 +197,7 @@ impl Files for MemFiles {
         ensures saves { CountsStore result self.old.save_faults self.new.save_faults }
     {
         if self.calls.is_next_to_fail() {
-            self.save_faults = self.save_faults.saturating_add(1);
-            return Err(StoreFault::Failed);
+            return fail(&mut self.save_faults, StoreFault::Failed);
         }
         match self.set(name, bytes) {
             Ok(()) => Ok(()),
@@ -256,8 +249,8 @@ impl Keeper for MemKeeper {
     ghost use Rattle.std.specs.Prelude.{◌≡◌, false, None, Some, is_err, IfOk, IfErr, IfSome, OnOk, OnErr, MatchResult};
     ghost use Rattle.std.specs.Option.{option_map};
     ghost use Rattle.mls_base.specs.Memory.{kept_of};
-    ghost use Rattle.mls_base.specs.Told.{raised, Rose, StaysSound, SoundStore};
-    ghost use Rattle.mls_base.specs.Calls.{next_fails, none_ahead, Counted, FailsWhereDue, CountsStore};
+    ghost use Rattle.mls_base.specs.Told.{raised, Rose, StaysSound, SoundStore, CountsStore};
+    ghost use Rattle.mls_base.specs.Calls.{next_fails, none_ahead, Counted, FailsWhereDue};
 
     ghost faults = { λ k. k.faults };
 
@@ -282,8 +275,7 @@ impl Keeper for MemKeeper {
         ensures gets { self.new.gets ≡ self.old.gets }
     {
         if self.calls.is_next_to_fail() {
-            self.faults = self.faults.saturating_add(1);
-            return Err(Failed);
+            return fail(&mut self.faults, Failed);
         }
         self.held = Some(bytes);
         Ok(())
@@ -302,8 +294,7 @@ impl Keeper for MemKeeper {
     {
         self.gets = self.gets.saturating_add(1);
         if self.calls.is_next_to_fail() {
-            self.faults = self.faults.saturating_add(1);
-            return Err(StoreFault::Failed);
+            return fail(&mut self.faults, StoreFault::Failed);
         }
         match &self.held {
             Some(bytes) => Ok(Some(Vec::from_slice(alloc, bytes.as_slice())?)),

@@ -6,7 +6,7 @@
 
 ghost use Rattle.std.specs.Prelude.{◌≡◌, ℕ, ◌+◌, ◌<◌, ◌≤◌, Bool, false, List, length, take, vec_len, Option, Some, IfOk, OnOk, OnErr, IfErr, IfSome, MatchResult};
 ghost use Rattle.std.specs.Option.{option_map};
-ghost use Rattle.mls_base.specs.Told.{appended, replaced, MayCease, Rose, raised, Names, Saved, LoadRefused, LoadLeaves, LoadCounts, GetLeaves, SaveLeaves, StoreCounts};
+ghost use Rattle.mls_base.specs.Told.{appended, replaced, MayCease, Rose, raised, Names, Saved, LoadRefused, LoadLeaves, CountsLoad, GetLeaves, SaveLeaves, CountsStore};
 ghost use Rattle.mls_base.specs.Told.{StaysSound, SoundLoad, SoundStore};
 
 use crate::faults::{Failed, LoadFault, StoreFault};
@@ -59,7 +59,7 @@ pub trait Files {
         ensures held { MatchResult result (λ _. held self.new ≡ held self.old) (λ fault. LoadLeaves fault (held self.old) (held self.new)) }
         ensures sound { StaysSound (sound self.old) (sound self.new) }
         ensures surely { IfErr result (λ fault. SoundLoad fault (sound self.old) (held self.old) name.now) }
-        ensures loads { MatchResult result (λ _. load_faults self.new ≡ load_faults self.old) (λ fault. LoadCounts fault (load_faults self.old) (load_faults self.new)) }
+        ensures loads { CountsLoad result (load_faults self.old) (load_faults self.new) }
         ensures saves { save_faults self.new ≡ save_faults self.old };
 
     /// Sets the bytes of a name. After `Failed` the name may be held with any bytes or none, but other names
@@ -70,7 +70,7 @@ pub trait Files {
         ensures sound { StaysSound (sound self.old) (sound self.new) }
         ensures surely { IfErr result (λ fault. SoundStore fault (sound self.old)) }
         ensures loads { load_faults self.new ≡ load_faults self.old }
-        ensures saves { MatchResult result (λ _. save_faults self.new ≡ save_faults self.old) (λ fault. StoreCounts fault (save_faults self.old) (save_faults self.new)) };
+        ensures saves { CountsStore result (save_faults self.old) (save_faults self.new) };
 }
 
 /// What keeps one checkpoint.
@@ -107,7 +107,7 @@ pub trait Keeper {
         ensures held { MatchResult result (λ _. held self.new ≡ held self.old) (λ fault. GetLeaves fault (held self.old) (held self.new)) }
         ensures sound { StaysSound (sound self.old) (sound self.new) }
         ensures surely { IfErr result (λ fault. SoundStore fault (sound self.old)) }
-        ensures faults { MatchResult result (λ _. faults self.new ≡ faults self.old) (λ fault. StoreCounts fault (faults self.old) (faults self.new)) }
+        ensures faults { CountsStore result (faults self.old) (faults self.new) }
         ensures gets { gets self.new ≡ raised (gets self.old) }
         ensures last { MatchResult result (λ given. last_get self.new ≡ replaced (last_get self.old) (option_map (λ bytes. bytes.items) given)) (λ _. last_get self.new ≡ last_get self.old) };
 }

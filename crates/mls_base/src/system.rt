@@ -2,7 +2,7 @@
 
 ghost use Rattle.std.specs.Prelude.{◌≡◌, ◌≤◌, None, false, vec_len, length, IfOk};
 
-use crate::faults::{Failed, LoadFault, StoreFault};
+use crate::faults::{Failed, LoadFault, StoreFault, fail};
 use crate::outside::{Files, Sink};
 use std::alloc::Global;
 use std::io::{ErrorKind, Read, Write};
@@ -35,10 +35,7 @@ impl<R: Print + Drop> Sink for StdSink<R> {
     fn write(&mut self, piece: &[u8]) -> Result<usize, Failed> {
         match write_some(&self.rt, piece) {
             Ok(n) if n > 0 => Ok(n),
-            _ => {
-                self.faults = self.faults.saturating_add(1);
-                Err(Failed)
-            }
+            _ => fail(&mut self.faults, Failed),
         }
     }
 }
@@ -90,10 +87,7 @@ impl<R: rt::Files + Drop> Files for StdFiles<R> {
 
     fn load(&mut self, alloc: Global, name: &str, max: u64) -> Result<Vec<u8>, LoadFault> {
         match load_file(&self.rt, alloc, name, max) {
-            Err(LoadFault::Failed) => {
-                self.load_faults = self.load_faults.saturating_add(1);
-                Err(LoadFault::Failed)
-            }
+            Err(LoadFault::Failed) => fail(&mut self.load_faults, LoadFault::Failed),
             answer => answer,
         }
     }
@@ -101,10 +95,7 @@ impl<R: rt::Files + Drop> Files for StdFiles<R> {
     fn save(&mut self, _alloc: Global, name: &str, bytes: &[u8]) -> Result<(), StoreFault> {
         match save_file(&self.rt, name, bytes) {
             Ok(()) => Ok(()),
-            Err(_) => {
-                self.save_faults = self.save_faults.saturating_add(1);
-                Err(StoreFault::Failed)
-            }
+            Err(_) => fail(&mut self.save_faults, StoreFault::Failed),
         }
     }
 }

@@ -5,7 +5,7 @@ use Rattle.std.proofs.lemmas.Bool.{cases_eq, cases_Bool}
 use Rattle.std.proofs.lemmas.Bool.Decides.{nat_tests}
 use Rattle.std.proofs.lemmas.List.{take_at, drop_at}
 use Rattle.mls_slot.specs.Disks.{Areas, Torn, over}
-use Rattle.mls_slot.specs.Slots.{gate, number, payload, payload_length, is_whole, next, value}
+use Rattle.mls_slot.specs.Slots.{head_length, gate, number, payload, payload_length, is_whole, next, value}
 use Rattle.mls_slot.specs.Known.{alone, following, other, is_shut, slot_of, IsHead, IsTarget}
 use Rattle.mls_slot.specs.Runs.{Changed, SameBut}
 use Rattle.mls_slot.proofs.Values.{shut_not_whole, short_not_whole, value_without, value_with, value_same}
@@ -23,7 +23,7 @@ beside : (areas image : Areas) (area n : ℕ) → IsTarget areas area n → Same
 beside areas image area n target same = let below : area < 2 = target.below in same (other area) (omega arith) (omega arith)
 
 -- an area that isn't shut, with another gate torn over its own: where it has gate 1 it is as before, or too short
-open_same : (old c : List ℕ) → is_shut old ≡ false → gate c ≡ 1 → Torn 0 1 old c → (c ≡ old) ⊎ (length c < 10)
+open_same : (old c : List ℕ) → is_shut old ≡ false → gate c ≡ 1 → Torn 0 1 old c → (c ≡ old) ⊎ (length c < head_length)
 open_same [] c free is torn = inr (omega (arith, torn.no_longer))
 open_same (h ∷ s) [] free is torn = absurd (omega (arith, is))
 open_same (h ∷ s) (g ∷ r) free is torn =
@@ -69,14 +69,14 @@ filling_keeps areas mid image area n target long shut same changed =
 abbrev pub spelled : ℕ → List ℕ → List ℕ → List ℕ → List ℕ
 spelled n b p tail = n ∷ (b ++ (p ++ tail))
 
-pub filled : (m : List ℕ) (n : ℕ) (b p : List ℕ) → length b ≡ 8 → 1 ≤ length m → over (over m 1 (n ∷ b)) 10 p ≡ gate m ∷ spelled n b p (drop (10 + length p) (over m 1 (n ∷ b)))
+pub filled : (m : List ℕ) (n : ℕ) (b p : List ℕ) → length b ≡ 8 → 1 ≤ length m → over (over m 1 (n ∷ b)) head_length p ≡ gate m ∷ spelled n b p (drop (head_length + length p) (over m 1 (n ∷ b)))
 filled [] n b p eight long = absurd (omega arith)
 filled (h ∷ s) n b p eight long =
     let behind : List ℕ = drop (1 + length (n ∷ b)) (h ∷ s) in
-    let size : length (h ∷ n ∷ b) ≡ 10 = omega arith in
-    let front : take 10 (over (h ∷ s) 1 (n ∷ b)) ≡ h ∷ n ∷ b = take_at (h ∷ n ∷ b) behind 10 size in
-    ap (λ (l : List ℕ). l ++ p ++ drop (10 + length p) (over (h ∷ s) 1 (n ∷ b))) front
-    ∙ append_assoc (h ∷ n ∷ b) p (drop (10 + length p) (over (h ∷ s) 1 (n ∷ b)))
+    let size : length (h ∷ n ∷ b) ≡ head_length = omega arith in
+    let front : take head_length (over (h ∷ s) 1 (n ∷ b)) ≡ h ∷ n ∷ b = take_at (h ∷ n ∷ b) behind head_length size in
+    ap (λ (l : List ℕ). l ++ p ++ drop (head_length + length p) (over (h ∷ s) 1 (n ∷ b))) front
+    ∙ append_assoc (h ∷ n ∷ b) p (drop (head_length + length p) (over (h ∷ s) 1 (n ∷ b)))
 
 -- with another gate torn over its own
 torn_gate : (h : ℕ) (x c : List ℕ) → Torn 0 1 (h ∷ x) c → c ≡ gate c ∷ x
@@ -89,17 +89,17 @@ module _ (n : ℕ) (b p tail : List ℕ) (eight : length b ≡ 8) (codes : from_
 
   pub spelled_payload : (g : ℕ) → payload (g ∷ spelled n b p tail) ≡ p
   spelled_payload g =
-      ap (λ (k : ℕ). take k (drop 10 (g ∷ spelled n b p tail))) (spelled_length g)
+      ap (λ (k : ℕ). take k (drop head_length (g ∷ spelled n b p tail))) (spelled_length g)
       ∙ ap (λ (l : List ℕ). take (length p) l) (drop_at b (p ++ tail) 8 eight)
       ∙ take_at p tail (length p) refl
 
   pub spelled_whole : n ≤ 2 → is_whole (1 ∷ spelled n b p tail) ≡ true
   spelled_whole small =
-      let size : length (1 ∷ spelled n b p tail) ≡ 10 + length p + length tail = omega (arith, length-append b (p ++ tail), length-append p tail) in
-      let long : 10 + payload_length (1 ∷ spelled n b p tail) ≤ length (1 ∷ spelled n b p tail) = omega (arith, spelled_length 1) in
+      let size : length (1 ∷ spelled n b p tail) ≡ head_length + length p + length tail = omega (arith, length-append b (p ++ tail), length-append p tail) in
+      let long : head_length + payload_length (1 ∷ spelled n b p tail) ≤ length (1 ∷ spelled n b p tail) = omega (arith, spelled_length 1) in
       whole_by (1 ∷ spelled n b p tail) refl small long
     where
-      whole_by : (bytes : List ℕ) → gate bytes ≡ 1 → number bytes ≤ 2 → 10 + payload_length bytes ≤ length bytes → is_whole bytes ≡ true
+      whole_by : (bytes : List ℕ) → gate bytes ≡ 1 → number bytes ≤ 2 → head_length + payload_length bytes ≤ length bytes → is_whole bytes ≡ true
       whole_by bytes is small long = grind (arith, nat_tests)
 
 pub following_small : (bytes : List ℕ) → following bytes ≤ 2

@@ -1,7 +1,7 @@
 -- Which values a crash leaves, over whole calls of a keeper.
 use Rattle.std.proofs.Common.{◌≡◌, inl, inr, ⊎_elim, ℕ, ◌<◌, Bool, true, false, IsTrue, List, [], ◌∷◌, ◌++◌, take, drop, Option, None, Some, IfSome, if◌then◌else◌, refl, sym, ◌∙◌, ap, subst, arith}
 use Rattle.mls_slot.specs.Disks.{Areas, View, IsLeft}
-use Rattle.mls_slot.specs.Slots.{payload, is_whole, value}
+use Rattle.mls_slot.specs.Slots.{head_length, payload, is_whole, value}
 use Rattle.mls_slot.specs.Known.{other, slot_of, IsTarget}
 use Rattle.mls_slot.specs.Runs.{LeavesOnly, IsOneOf, GivesOnly, SameSeen}
 use Rattle.mls_slot.specs.Keepers.{told_value}
@@ -66,10 +66,10 @@ pub no_value : (areas : Areas) (area n : ℕ) → IsTarget areas area n → slot
 no_value areas area n target e = target.kept ∙ none_alone (is_whole (areas (other area))) _ (payload (areas (other area))) e
 
 -- where it is, the value is its payload
-pub a_value : (areas : Areas) (area n : ℕ) (slot : Slot) (bytes : List ℕ) → IsTarget areas area n → slot_of (areas (other area)) ≡ Some slot → bytes ≡ take slot.length (drop 10 (areas (other area))) → value areas ≡ Some bytes
+pub a_value : (areas : Areas) (area n : ℕ) (slot : Slot) (bytes : List ℕ) → IsTarget areas area n → slot_of (areas (other area)) ≡ Some slot → bytes ≡ take slot.length (drop head_length (areas (other area))) → value areas ≡ Some bytes
 a_value areas area n slot bytes target e is =
     let has = has_slot (areas (other area)) slot e in
     target.kept
     ∙ ap (λ (v : Bool). if v then Some (payload (areas (other area))) else None) has.whole
-    ∙ ap (λ (k : ℕ). Some (take k (drop 10 (areas (other area))))) (sym has.length)
+    ∙ ap (λ (k : ℕ). Some (take k (drop head_length (areas (other area))))) (sym has.length)
     ∙ ap (λ (l : List ℕ). Some l) (sym is)

@@ -2,7 +2,7 @@
 use Rattle.std.proofs.Common.{◌≡◌, ◌⊎◌, inl, ℕ, ◌+◌, ◌<◌, false, List, [], ◌∷◌, length, take, drop, Some, ◌∙◌, ap, arith}
 use Rattle.std.specs.Int.{w64, from_be_bytes}
 use Rattle.mls_slot.specs.Disks.{Areas, View, IsLeft, IsAtRest, Torn, over}
-use Rattle.mls_slot.specs.Slots.{gate, value}
+use Rattle.mls_slot.specs.Slots.{head_length, gate, value}
 use Rattle.mls_slot.specs.Known.{other, IsHead, AreHeads, IsTarget}
 use Rattle.mls_slot.specs.Runs.{LeavesOnly, SameBut, Changed, Settled, Shuts, Stores}
 use Rattle.mls_slot.specs.declared.heads.Heads.{Heads}
@@ -27,9 +27,9 @@ module _ (old mid : View) (area n : ℕ) (p : List ℕ) (target : IsTarget old.s
       (λ image is. inl is)
       (λ image changed. inl (filling_keeps old.seen mid.seen image area n target shuts.stands shuts.shut shuts.elsewhere changed))
 
-  module _ (b : List ℕ) (eight : length b ≡ 8) (codes : from_be_bytes w64 b ≡ length p) (full : View) (settled : Settled area (over (over (mid.seen area) 1 (n ∷ b)) 10 p) mid full) where
+  module _ (b : List ℕ) (eight : length b ≡ 8) (codes : from_be_bytes w64 b ≡ length p) (full : View) (settled : Settled area (over (over (mid.seen area) 1 (n ∷ b)) head_length p) mid full) where
     tail : List ℕ
-    tail = drop (10 + length p) (over (mid.seen area) 1 (n ∷ b))
+    tail = drop (head_length + length p) (over (mid.seen area) 1 (n ∷ b))
 
     shape : full.seen area ≡ gate (mid.seen area) ∷ spelled n b p tail
     unfolding tail

@@ -3,7 +3,7 @@ use Rattle.std.proofs.Common.{◌≡◌, ◌≢◌, inl, inr, ℕ, zero, suc, �
 use Rattle.std.proofs.lemmas.Bool.{cases_eq}
 use Rattle.std.proofs.lemmas.Bool.Decides.{nat_tests}
 use Rattle.mls_slot.specs.Disks.{Areas}
-use Rattle.mls_slot.specs.Slots.{gate, number, payload, payload_length, is_whole, next, value, value_of}
+use Rattle.mls_slot.specs.Slots.{head_length, gate, number, payload, payload_length, is_whole, next, value, value_of}
 use Rattle.mls_slot.specs.Known.{alone, following, other, slot_of, IsTarget}
 use Rattle.mls_slot.specs.declared.heads.Slot.{Slot}
 
@@ -12,7 +12,7 @@ pub shut_not_whole : (bytes : List ℕ) → gate bytes ≢ 1 → is_whole bytes 
 shut_not_whole bytes shut = grind (arith, nat_tests)
 
 -- nor is one of less than ten bytes
-pub short_not_whole : (bytes : List ℕ) → length bytes < 10 → is_whole bytes ≡ false
+pub short_not_whole : (bytes : List ℕ) → length bytes < head_length → is_whole bytes ≡ false
 short_not_whole bytes short = grind (arith, nat_tests)
 
 pub whole_number : (bytes : List ℕ) → is_whole bytes ≡ true → number bytes ≤ 2

@@ -2,6 +2,7 @@
 use Rattle.std.proofs.Common.{◌≡◌, inl, inr, ℕ, ◌<◌, Bool, IsTrue, List, length, take, drop, sym, ◌∙◌, ap, subst, arith, length-take}
 use Rattle.std.proofs.lemmas.Bool.{cases_eq, cases_lt}
 use Rattle.std.proofs.lemmas.List.{take-take, take_at, take_all}
+use Rattle.mls_slot.specs.Slots.{head_length}
 use Rattle.mls_slot.specs.Disks.{View, IsAtRest, Torn, Follows, Elsewhere, Untouched, Synced, Gave}
 use Rattle.mls_slot.specs.Known.{IsHead}
 use Rattle.mls_slot.specs.Runs.{ReadsHead}
@@ -29,23 +30,23 @@ module _ (area : ℕ) (below : area < 2) (old new : View) (only : OnlyNow old) (
       (λ c d is torn. torn.before ∙ ap (λ (l : List ℕ). take 1 l) is)
       (λ c is. ap (λ (l : List ℕ). take 1 l) is)
 
-front_of_ten : (l : List ℕ) → take 1 l ≡ take 1 (take 10 l)
-front_of_ten l = sym (take-take 1 10 l (omega arith))
+front_of_head : (l : List ℕ) → take 1 l ≡ take 1 (take head_length l)
+front_of_head l = sym (take-take 1 head_length l (omega arith))
 
-pub slot_filled : (area : ℕ) → area < 2 → (n : ℕ) (old mid new : View) → Reach area (SameGate (old.seen area)) old.seen old mid → Follows 10 n (mid.may_leave area) (new.may_leave area) → Elsewhere area mid new → Reach area (SameGate (old.seen area)) old.seen old new
+pub slot_filled : (area : ℕ) → area < 2 → (n : ℕ) (old mid new : View) → Reach area (SameGate (old.seen area)) old.seen old mid → Follows head_length n (mid.may_leave area) (new.may_leave area) → Elsewhere area mid new → Reach area (SameGate (old.seen area)) old.seen old new
 slot_filled area below n old mid new so_far follows beside =
-    reach_write area below old.seen old (SameGate (old.seen area)) (SameGate (old.seen area)) 10 n mid new so_far follows beside
-    (λ c d is torn. front_of_ten d ∙ ap (λ (l : List ℕ). take 1 l) torn.before ∙ sym (front_of_ten c) ∙ is)
+    reach_write area below old.seen old (SameGate (old.seen area)) (SameGate (old.seen area)) head_length n mid new so_far follows beside
+    (λ c d is torn. front_of_head d ∙ ap (λ (l : List ℕ). take 1 l) torn.before ∙ sym (front_of_head c) ∙ is)
     (λ c is. is)
 
 -- the bytes that a read of ten gave
-pub front_read : (bytes into new front : List ℕ) (n : ℕ) → length into ≡ 10 → Gave bytes 0 into new n → front ≡ take n new → front ≡ take 10 bytes
+pub front_read : (bytes into new front : List ℕ) (n : ℕ) → length into ≡ head_length → Gave bytes 0 into new n → front ≡ take n new → front ≡ take head_length bytes
 front_read bytes into new front n ten gave is =
     let many = gave.many in
     let size : length (take n (drop 0 bytes)) ≡ n = omega (arith, length-take n bytes) in
-    is ∙ ap (λ (l : List ℕ). take n l) gave.front ∙ take_at (take n (drop 0 bytes)) (drop n into) n size ∙ elim (cases_lt (length bytes) 10) [
-      | inr long ↦ let same : n ≡ 10 = omega arith in ap (λ (k : ℕ). take k bytes) same
-      | inl short ↦ take_all n bytes (omega arith) ∙ sym (take_all 10 bytes (omega arith))
+    is ∙ ap (λ (l : List ℕ). take n l) gave.front ∙ take_at (take n (drop 0 bytes)) (drop n into) n size ∙ elim (cases_lt (length bytes) head_length) [
+      | inr long ↦ let same : n ≡ head_length = omega arith in ap (λ (k : ℕ). take k bytes) same
+      | inl short ↦ take_all n bytes (omega arith) ∙ sym (take_all head_length bytes (omega arith))
     ]
 
 -- after a sync, a look at the length and a read of the head

@@ -3,6 +3,10 @@ use Rattle.std.specs.Prelude.{ℕ, ◌+◌, ◌%◌, List, length, take, drop, g
 use Rattle.std.specs.Int.{w64, from_be_bytes}
 use Rattle.mls_slot.specs.Disks.{Areas}
 
+-- the bytes before the payload: a gate byte, a number byte and the payload's length in eight bytes
+abbrev pub head_length : ℕ
+head_length = 10
+
 -- a slot's gate byte, number byte, length and payload
 abbrev pub gate : List ℕ → ℕ
 gate bytes = get_or bytes 0 0
@@ -14,11 +18,11 @@ abbrev pub payload_length : List ℕ → ℕ
 payload_length bytes = from_be_bytes w64 (take 8 (drop 2 bytes))
 
 abbrev pub payload : List ℕ → List ℕ
-payload bytes = take (payload_length bytes) (drop 10 bytes)
+payload bytes = take (payload_length bytes) (drop head_length bytes)
 
--- whole: the gate is 1, the number is 0 to 2, and the area has at least 10 + length bytes
+-- whole: the gate is 1, the number is 0 to 2, and the area has at least head_length + length bytes
 abbrev pub is_whole : List ℕ → Bool
-is_whole bytes = (gate bytes == 1) && (nat_le (number bytes) 2 && nat_le (10 + payload_length bytes) (length bytes))
+is_whole bytes = (gate bytes == 1) && (nat_le (number bytes) 2 && nat_le (head_length + payload_length bytes) (length bytes))
 
 -- the number of another is this one's plus 1 modulo 3
 abbrev pub next : ℕ → ℕ

@@ -5,11 +5,11 @@ ghost use Rattle.std.specs.Int.{w64, to_be_bytes};
 ghost use Rattle.mls_base.specs.Told.{Rose};
 ghost use Rattle.mls_slot.specs.Disks.{View, IsLeft, IsAtRest, Torn, over};
 ghost use Rattle.mls_slot.specs.Runs.{LeavesOnly, Changed, Settled, ReadsHead, Begins, Shuts, Knows, Stores};
-ghost use Rattle.mls_slot.specs.Slots.{value};
+ghost use Rattle.mls_slot.specs.Slots.{head_length, value};
 ghost use Rattle.mls_slot.specs.Known.{IsHead, IsTarget};
 
 use crate::disk::Disk;
-use crate::heads::{Head, Heads, Slot, head_of};
+use crate::heads::{HEAD_LENGTH, Head, Heads, Slot, head_of};
 use mls_base::faults::Failed;
 
 /// Writes an area's gate and syncs.
@@ -37,14 +37,14 @@ pub fn write_slot<D: Disk>(
     requires area { area < 2 }
     requires gate { IsTrue (D.tells disk.old) → 1 ≤ length ((D.view disk.old).seen area) }
     ensures moments { IsTrue (D.tells disk.new) → IsAtRest (D.view disk.old) → LeavesOnly (D.view disk.old) (D.view disk.new) (Changed area (λ c. take 1 c ≡ take 1 ((D.view disk.old).seen area)) (D.view disk.old).seen) }
-    ensures settled { OnOk result (IsTrue (D.tells disk.old) → IsAtRest (D.view disk.old) → Settled area (over (over ((D.view disk.old).seen area) 1 (number ∷ to_be_bytes w64 (length payload.now))) 10 payload.now) (D.view disk.old) (D.view disk.new)) }
+    ensures settled { OnOk result (IsTrue (D.tells disk.old) → IsAtRest (D.view disk.old) → Settled area (over (over ((D.view disk.old).seen area) 1 (number ∷ to_be_bytes w64 (length payload.now))) head_length payload.now) (D.view disk.old) (D.view disk.new)) }
     ensures tells { OnOk result (D.tells disk.new ≡ D.tells disk.old) }
     ensures ceased { OnErr result (IsTrue (D.tells disk.new) → IsTrue (D.tells disk.old)) }
     ensures faultless { OnOk result (D.faults disk.new ≡ D.faults disk.old) }
     ensures rose { OnErr result (Rose (D.faults disk.old) (D.faults disk.new)) }
 {
     disk.write_at(area, 1, &front(number, payload.len() as u64))?;
-    disk.write_at(area, 10, payload)?;
+    disk.write_at(area, HEAD_LENGTH as u64, payload)?;
     disk.sync(area)?;
     Ok(())
 }
@@ -69,7 +69,7 @@ fn read_head<D: Disk>(disk: &mut D, area: u32) -> Result<Head, Failed>
 {
     disk.sync(area)?; // What is looked at has to be on the disk.
     let len = disk.len(area)?;
-    let mut front = [0u8; 10];
+    let mut front = [0u8; HEAD_LENGTH];
     let n = disk.read(area, 0, &mut front)?;
     Ok(head_of(len, front.split_at(n).0))
 }

@@ -4,7 +4,7 @@
 ghost use Rattle.std.specs.Prelude.{◌≡◌, ℕ, ◌≤◌, false, length, IfOk};
 
 use crate::disk::Disk;
-use mls_base::faults::Failed;
+use mls_base::faults::{Failed, counted};
 use std::fmt::{self, Write as _};
 use std::fs::{File, OpenFile, OpenOptions};
 use std::io::{ErrorKind, Read, Seek, SeekFrom, Write};
@@ -52,43 +52,25 @@ impl<R: rt::Files + Drop> Disk for FileDisk<R> {
     ghost seen_left = { λ d tells. Prim.cc };
 
     fn len(&mut self, area: u32) -> Result<u64, Failed> {
-        match file_length(&self.rt, self.rank, area) {
-            Ok(n) => Ok(n),
-            Err(_) => {
-                self.faults = self.faults.saturating_add(1);
-                Err(Failed)
-            }
-        }
+        counted(&mut self.faults, file_length(&self.rt, self.rank, area))
     }
 
     fn read(&mut self, area: u32, at: u64, into: &mut [u8]) -> Result<usize, Failed> {
-        match read_file(&self.rt, self.rank, area, at, into) {
-            Ok(n) => Ok(n),
-            Err(_) => {
-                self.faults = self.faults.saturating_add(1);
-                Err(Failed)
-            }
-        }
+        counted(
+            &mut self.faults,
+            read_file(&self.rt, self.rank, area, at, into),
+        )
     }
 
     fn write_at(&mut self, area: u32, at: u64, bytes: &[u8]) -> Result<(), Failed> {
-        match write_file(&self.rt, self.rank, area, at, bytes) {
-            Ok(()) => Ok(()),
-            Err(_) => {
-                self.faults = self.faults.saturating_add(1);
-                Err(Failed)
-            }
-        }
+        counted(
+            &mut self.faults,
+            write_file(&self.rt, self.rank, area, at, bytes),
+        )
     }
 
     fn sync(&mut self, area: u32) -> Result<(), Failed> {
-        match sync_file(&self.rt, self.rank, area) {
-            Ok(()) => Ok(()),
-            Err(_) => {
-                self.faults = self.faults.saturating_add(1);
-                Err(Failed)
-            }
-        }
+        counted(&mut self.faults, sync_file(&self.rt, self.rank, area))
     }
 }
 

@@ -4,8 +4,11 @@ ghost use Rattle.std.specs.Prelude.{◌≡◌, ◌≢◌, ℕ, ◌+◌, ◌<◌,
 ghost use Rattle.std.specs.Int.{w64, to_be_bytes};
 ghost use Rattle.mls_slot.specs.Disks.{Areas};
 ghost use Rattle.mls_slot.specs.Runs.{SameBut};
-ghost use Rattle.mls_slot.specs.Slots.{next, value};
+ghost use Rattle.mls_slot.specs.Slots.{head_length, next, value};
 ghost use Rattle.mls_slot.specs.Known.{is_shut, slot_of, IsHead, AreHeads, IsTarget};
+
+/// The bytes of a slot before its payload: a gate byte, a number byte and the payload's length in eight bytes.
+pub const HEAD_LENGTH: usize = 10;
 
 /// A whole slot: its number and the length of its payload in bytes.
 #[derive(Clone, Copy, Debug, PartialEq, Eq)]
@@ -95,9 +98,9 @@ fn later_target(zero: u8, one: u8) -> (u32, u8)
     (1, following(zero))
 }
 
-/// What an area's length and its first bytes, at most ten, tell.
+/// What an area's length and its first bytes, at most a head's, tell.
 pub fn head_of(len: u64, front: &[u8]) -> Head
-    ensures { (bytes : List ℕ) → length bytes ≡ len → front.now ≡ take 10 bytes → IsHead bytes result }
+    ensures { (bytes : List ℕ) → length bytes ≡ len → front.now ≡ take head_length bytes → IsHead bytes result }
 {
     Head {
         shut: has_shut_gate(front),
@@ -106,7 +109,7 @@ pub fn head_of(len: u64, front: &[u8]) -> Head
 }
 
 fn has_shut_gate(front: &[u8]) -> bool
-    ensures { (bytes : List ℕ) → front.now ≡ take 10 bytes → result ≡ is_shut bytes }
+    ensures { (bytes : List ℕ) → front.now ≡ take head_length bytes → result ≡ is_shut bytes }
 {
     match front.first() {
         Some(gate) => *gate != 1,
@@ -115,13 +118,14 @@ fn has_shut_gate(front: &[u8]) -> bool
 }
 
 fn whole_slot(len: u64, front: &[u8]) -> Option<Slot>
-    ensures { (bytes : List ℕ) → length bytes ≡ len → front.now ≡ take 10 bytes → result ≡ slot_of bytes }
+    ensures { (bytes : List ℕ) → length bytes ≡ len → front.now ≡ take head_length bytes → result ≡ slot_of bytes }
 {
     let [1, number @ 0..=2, a, b, c, d, e, f, g, h] = front else {
         return None;
     };
     let length = u64::from_be_bytes([*a, *b, *c, *d, *e, *f, *g, *h]);
-    if len < 10 || len - 10 < length {
+    let head = HEAD_LENGTH as u64;
+    if len < head || len - head < length {
         return None;
     }
     Some(Slot {

@@ -4,15 +4,15 @@
 ghost use Rattle.std.specs.Prelude.{◌≡◌, ℕ, ◌<◌, take, drop, true, false, [], ◌∷◌, ◌++◌, List, None, Option, Some, IsTrue, IfOk, IfErr, IfSome, OnOk, OnErr, MatchResult};
 ghost use Rattle.std.specs.Option.{option_map};
 ghost use Rattle.std.proofs.Props.{props};
-ghost use Rattle.mls_base.specs.Told.{Rose, raised, replaced, MayCease, GetLeaves, StoreCounts};
-ghost use Rattle.mls_slot.specs.Slots.{value};
+ghost use Rattle.mls_base.specs.Told.{Rose, raised, replaced, MayCease, GetLeaves, CountsStore};
+ghost use Rattle.mls_slot.specs.Slots.{head_length, value};
 ghost use Rattle.mls_slot.specs.Disks.{Areas, IsLeft, IsAtRest};
 ghost use Rattle.mls_slot.specs.WholeRuns.{CrashInPut, CrashInGet, Gives};
 ghost use Rattle.mls_slot.specs.Runs.{LeavesOnly, Knows, IsOneOf, GivesOnly, SameSeen, FaultedBy, TellsAfter};
 
 use crate::disk::Disk;
 use crate::disk_calls::{begin, store};
-use crate::heads::Heads;
+use crate::heads::{HEAD_LENGTH, Heads};
 use mls_base::faults::{Failed, StoreFault};
 use mls_base::outside::Keeper;
 use std::alloc::Global;
@@ -86,17 +86,17 @@ impl<D: Disk + Drop> SlotKeeper<D> {
     /// The first bytes of an area's payload.
     fn payload(&mut self, alloc: Global, area: u32, length: u64) -> Result<Vec<u8>, StoreFault>
         requires { area < 2 }
-        ensures bytes { IfOk result (λ bytes. IsTrue (D.tells self.old.disk) → bytes.items ≡ take length (drop 10 ((D.view self.old.disk).seen area))) }
+        ensures bytes { IfOk result (λ bytes. IsTrue (D.tells self.old.disk) → bytes.items ≡ take length (drop head_length ((D.view self.old.disk).seen area))) }
         ensures same { IsTrue (D.tells self.new.disk) → IsTrue (D.tells self.old.disk) → SameSeen (D.view self.old.disk) (D.view self.new.disk) }
         ensures moments { IsTrue (D.tells self.new.disk) → LeavesOnly (D.view self.old.disk) (D.view self.new.disk) (IsLeft (D.view self.old.disk)) }
         ensures ceased { IsTrue (D.tells self.new.disk) → IsTrue (D.tells self.old.disk) }
         ensures faulted { MatchResult result (λ _. self.new.faulted ≡ self.old.faulted) (λ fault. FaultedBy fault self.old.faulted self.new.faulted) }
         ensures gets { self.new.gets ≡ self.old.gets }
         ensures tells { MatchResult result (λ _. D.tells self.new.disk ≡ D.tells self.old.disk) (λ fault. TellsAfter fault (D.tells self.old.disk) (D.tells self.new.disk)) }
-        ensures faults { MatchResult result (λ _. D.faults self.new.disk ≡ D.faults self.old.disk) (λ fault. StoreCounts fault (D.faults self.old.disk) (D.faults self.new.disk)) }
+        ensures faults { CountsStore result (D.faults self.old.disk) (D.faults self.new.disk) }
     {
         let mut bytes = vec![in alloc; 0u8; length as usize]?;
-        match self.disk.read(area, 10, &mut bytes) {
+        match self.disk.read(area, HEAD_LENGTH as u64, &mut bytes) {
             Ok(n) => {
                 bytes.truncate(n);
                 Ok(bytes)
@@ -162,7 +162,7 @@ impl<D: Disk + Drop> Keeper for SlotKeeper<D> {
         ensures leaves { IfOk result (λ given. IsTrue (D.tells self.old.disk) → GivesOnly (D.view self.new.disk) (option_map (λ bytes. bytes.items) given ∷ [])) }
         ensures given { IfOk result (λ given. IfSome (⟦<SlotKeeper<D> as Keeper>⟧.held self.old) (λ kept. kept ≡ option_map (λ bytes. bytes.items) given)) }
         ensures held { MatchResult result (λ _. ⟦<SlotKeeper<D> as Keeper>⟧.held self.new ≡ ⟦<SlotKeeper<D> as Keeper>⟧.held self.old) (λ fault. GetLeaves fault (⟦<SlotKeeper<D> as Keeper>⟧.held self.old) (⟦<SlotKeeper<D> as Keeper>⟧.held self.new)) }
-        ensures faults { MatchResult result (λ _. ⟦<SlotKeeper<D> as Keeper>⟧.faults self.new ≡ ⟦<SlotKeeper<D> as Keeper>⟧.faults self.old) (λ fault. StoreCounts fault (⟦<SlotKeeper<D> as Keeper>⟧.faults self.old) (⟦<SlotKeeper<D> as Keeper>⟧.faults self.new)) }
+        ensures faults { CountsStore result (⟦<SlotKeeper<D> as Keeper>⟧.faults self.old) (⟦<SlotKeeper<D> as Keeper>⟧.faults self.new) }
         ensures gets { ⟦<SlotKeeper<D> as Keeper>⟧.gets self.new ≡ raised (⟦<SlotKeeper<D> as Keeper>⟧.gets self.old) }
         ensures last { MatchResult result (λ given. ⟦<SlotKeeper<D> as Keeper>⟧.last_get self.new ≡ replaced (⟦<SlotKeeper<D> as Keeper>⟧.last_get self.old) (option_map (λ bytes. bytes.items) given)) (λ _. ⟦<SlotKeeper<D> as Keeper>⟧.last_get self.new ≡ ⟦<SlotKeeper<D> as Keeper>⟧.last_get self.old) }
     {

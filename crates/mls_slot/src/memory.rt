@@ -272,9 +272,8 @@ impl MemDisk {
         ensures tells { self.new.tells ≡ false }
         ensures rose { Rose self.old.faults self.new.faults }
     {
-        self.faults = self.faults.saturating_add(1);
         self.tells = false;
-        Failed
+        self.fault()
     }
 
     /// Writes, as a new moment.

@@ -30,6 +30,13 @@ bytes_eq_comm (x ∷ xs) (y ∷ ys) =
     let heads : (x == y) ≡ (y == x) = grind (arith, nat_tests) in
     ap (λ b. b && bytes_eq xs ys) heads ∙ ap (λ b. (y == x) && b) (bytes_eq_comm xs ys)
 
+-- the same test, with the texts the other way round
+pub any_comm : (key : List ℕ) (texts : List (List ℕ)) → list_any (λ (text : List ℕ). bytes_eq text key) texts ≡ list_any (bytes_eq key) texts
+any_comm key [] = refl
+any_comm key (text ∷ texts) =
+    ap (λ b. b || list_any (λ (other : List ℕ). bytes_eq other key) texts) (bytes_eq_comm text key)
+    ∙ ap (λ b. bytes_eq key text || b) (any_comm key texts)
+
 -- one text after another is compared
 pub has_text_step : (text : List ℕ) (texts : List (String Global)) (i : ℕ) (other : String Global) (b : Bool) → i < length texts → other ≡ get_or texts i other → b ≡ bytes_eq (string_bytes other) text
     → list_any (same_bytes text) (map string_bytes (drop i texts)) ≡ (b || list_any (same_bytes text) (map string_bytes (drop (i + 1) texts)))

@@ -179,18 +179,23 @@ whole counts choices launch parameters =
     else if nat_lt 1073741824 (counts.groups * counts.steps * field_count choices * counts.ranks) then Err (Product GroupsStepsRanks)
     else Ok (study_with counts choices launch parameters)
 
--- the study that the table writes
-unfoldable pub study_in : Members → Result Study StudyFault
-study_in ms = do
-  counts ← counts_of ms
-  choices ← choices_of ms
-  launch ← launch_of ms
+-- the study of these parts and of the parameters that the table writes
+unfoldable pub study_with_parameters : Counts → Choices → Launch → Members → Result Study StudyFault
+study_with_parameters counts choices launch ms = do
   tables ← needed Parameters tables_in (get_member (codes "parameters") ms)
   parameters ← parameters_from [] tables
   distinct ← refuse Duplicate (duplicate_from [] parameters)
   known ← refuse Extra (least_unknown TableKind.Study ms)
   all_known ← refuse Extra (first_unknown tables)
   whole counts choices launch parameters
+
+-- the study that the table writes
+unfoldable pub study_in : Members → Result Study StudyFault
+study_in ms = do
+  counts ← counts_of ms
+  choices ← choices_of ms
+  launch ← launch_of ms
+  study_with_parameters counts choices launch ms
 
 -- the study that the bytes spell, or their first fault
 unfoldable pub study_of : List ℕ → Result Study StudyFault

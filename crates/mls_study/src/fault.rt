@@ -51,7 +51,7 @@ impl fmt::Display for Name {
 }
 
 /// A known key, to be printed as in a study file.
-#[derive(Clone, Copy, Debug)]
+#[derive(Clone, Copy)]
 struct KeyText(Key);
 
 impl fmt::Display for KeyText {
@@ -79,7 +79,7 @@ impl fmt::Display for KeyText {
 }
 
 /// A product of a study's numbers, to be printed.
-#[derive(Clone, Copy, Debug)]
+#[derive(Clone, Copy)]
 struct ProductText(Product);
 
 impl fmt::Display for ProductText {

@@ -18,7 +18,7 @@ use std::alloc::{AllocError, Global};
 use toml::Value;
 
 /// The sizes that a study file gives first.
-#[derive(Clone, Copy, Debug)]
+#[derive(Clone, Copy)]
 pub struct Counts {
     pub cells: u32,
     pub steps: u32,
@@ -28,7 +28,7 @@ pub struct Counts {
 }
 
 /// What a study file says of seed, samples, fields, statistics and thresholds.
-#[derive(Debug, Drop)]
+#[derive(Drop)]
 pub struct Choices {
     pub seed: u64,
     pub signed: bool,
@@ -39,7 +39,7 @@ pub struct Choices {
 }
 
 /// How groups are launched.
-#[derive(Clone, Copy, Debug)]
+#[derive(Clone, Copy)]
 pub struct Launch {
     pub slots: u32,
     pub silence: u32,

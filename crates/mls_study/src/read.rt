@@ -13,7 +13,7 @@ ghost use Rattle.mls_study.specs.Faults.{Gives, IsMemory};
 ghost use Rattle.mls_study.specs.Names.{place_in, duplicate_from};
 ghost use Rattle.mls_study.specs.Parameters.{all_seen};
 ghost use Rattle.mls_study.specs.Ranges.{AreCounts, AreChoices, AreLaunch};
-ghost use Rattle.mls_study.specs.StudyFile.{document_of, counts_of, seed_in, samples_in, are_field_names, fields_in, are_statistics, statistics_in, all_statistics, thresholds_in, choices_of, launch_of, tables_in, parameters_from, refuse, sizes_with, whole, study_in, study_of};
+ghost use Rattle.mls_study.specs.StudyFile.{document_of, counts_of, seed_in, samples_in, are_field_names, fields_in, are_statistics, statistics_in, all_statistics, thresholds_in, choices_of, launch_of, tables_in, parameters_from, refuse, sizes_with, whole, study_with_parameters, study_in, study_of};
 ghost use Rattle.mls_study.specs.Values.{needed, given_or};
 ghost use Rattle.mls_model.specs.declared.studies.Key.TheVariants as Key;
 ghost use Rattle.mls_study.specs.declared.fault.StudyFault.TheVariants.{Extra};
@@ -229,6 +229,7 @@ fn shape(counts: Counts, choices: &Choices, launch: Launch, parameters: u32) -> 
     requires sizes { AreSizes (sizes_with counts (chosen choices.now) launch parameters) }
     ensures { result ≡ sizes_with counts (chosen choices.now) launch parameters }
 {
+    let thresholds: &[u16] = &choices.thresholds;
     let numbers = Numbers {
         cells: counts.cells,
         steps: counts.steps,
@@ -239,8 +240,8 @@ fn shape(counts: Counts, choices: &Choices, launch: Launch, parameters: u32) -> 
         slots: launch.slots,
         silence: launch.silence,
         lives: launch.lives,
-        thresholds: choices.thresholds.len() as u32,
-        threshold: eight(&choices.thresholds),
+        thresholds: thresholds.len() as u32,
+        threshold: eight(thresholds),
         signed: choices.signed,
         fields: field_number(choices),
     };
@@ -287,6 +288,28 @@ fn study(
     })
 }
 
+/// The study of a table whose counts, choices and launch are these.
+#[tactic(auto, unfolding(crate::specs::StudyFile::study_with_parameters))]
+fn study_over(
+    alloc: Global,
+    table: &Table,
+    counts: Counts,
+    choices: Choices,
+    launch: Launch,
+) -> Result<Study, StudyFault>
+    requires counts { AreCounts counts }
+    requires choices { AreChoices (chosen choices) }
+    requires launch { AreLaunch launch }
+    ensures { Gives (λ study. study) result (study_with_parameters counts (chosen choices) launch (table_view table.now)) }
+{
+    let tables = parameter_tables(table)?;
+    let parameters = parameters(alloc, tables)?;
+    let places = places(alloc, &parameters)?;
+    refuse_key(alloc, least_unknown(TableKind::Study, table))?;
+    refuse_key(alloc, first_unknown(tables))?;
+    study(counts, choices, launch, parameters, places)
+}
+
 /// The study that the table writes.
 #[tactic(auto, unfolding(crate::specs::StudyFile::study_in))]
 fn study_from(alloc: Global, table: &Table) -> Result<Study, StudyFault>
@@ -295,12 +318,7 @@ fn study_from(alloc: Global, table: &Table) -> Result<Study, StudyFault>
     let counts = counts(table)?;
     let choices = choices(alloc, table)?;
     let launch = launch(table)?;
-    let tables = parameter_tables(table)?;
-    let parameters = parameters(alloc, tables)?;
-    let places = places(alloc, &parameters)?;
-    refuse_key(alloc, least_unknown(TableKind::Study, table))?;
-    refuse_key(alloc, first_unknown(tables))?;
-    study(counts, choices, launch, parameters, places)
+    study_over(alloc, table, counts, choices, launch)
 }
 
 /// The study that the bytes spell. Where they spell none, the first fault in the order of a study file; or want

@@ -1,6 +1,6 @@
 //! The parameters' tables, and the keys that no study file has.
 
-ghost use Rattle.std.specs.Prelude.{◌≡◌, ℕ, ◌≤◌, ◌<◌, [], length, map, option_map, string_bytes, pos, negsuc, ◌≤ℤ◌, ◌-ℤ◌, nat_le, ◌&&◌, IfOk, IsTrue};
+ghost use Rattle.std.specs.Prelude.{codes, ◌≡◌, ℕ, ◌≤◌, ◌<◌, [], length, map, option_map, string_bytes, pos, negsuc, ◌≤ℤ◌, ◌-ℤ◌, nat_le, ◌&&◌, IfOk, IsTrue};
 ghost use Rattle.mls_model.specs.Studies.{is_name};
 ghost use Rattle.toml.specs.Data.{get, as_table};
 ghost use Rattle.toml.specs.View.{view, items_view, table_view, array_view};
@@ -62,10 +62,10 @@ pub fn tables(value: &Value) -> Result<&[Value], StudyFault>
     }
 }
 
-fn needed_member<'a>(value: &'a Value, name: &str, key: Key) -> Result<&'a Value, StudyFault>
-    ensures { Gives (λ v. view v.now) result (needed key (λ d. Ok d) (get name.now (view value.now))) }
+fn entry<'a>(table: &'a Value, name: &str) -> Option<&'a Value>
+    ensures { option_map (λ v. view v.now) result ≡ get name.now (view table.now) }
 {
-    value.get(name).ok_or(StudyFault::Missing { key })
+    table.get(name)
 }
 
 #[tactic(auto, unfolding(crate::specs::StudyFile::name_in))]
@@ -97,22 +97,41 @@ fn high(value: &Value, key: Key, low: i64) -> Result<i64, StudyFault>
     }
 }
 
+fn needed_name(alloc: Global, table: &Value, key: Key) -> Result<String, StudyFault>
+    ensures exact { Gives string_bytes result (needed key (name_in key) (get (codes "name") (view table.now))) }
+    ensures named { IfOk result (λ name. IsTrue (is_name (string_bytes name))) }
+{
+    let value = entry(table, "name").ok_or(StudyFault::Missing { key })?;
+    name(alloc, value, key)
+}
+
+fn needed_low(table: &Value, key: Key) -> Result<i64, StudyFault>
+    ensures exact { result ≡ needed key (integer_in key (negsuc 4294967295) (pos 4294967295)) (get (codes "low") (view table.now)) }
+    ensures low_bound { IfOk result (λ low. negsuc 4294967295 ≤ℤ low) }
+{
+    let value = entry(table, "low").ok_or(StudyFault::Missing { key })?;
+    integer(value, key, -4294967296, 4294967295)
+}
+
+fn needed_high(table: &Value, key: Key, low: i64) -> Result<i64, StudyFault>
+    requires { negsuc 4294967295 ≤ℤ low }
+    ensures exact { result ≡ needed key (high_in key low) (get (codes "high") (view table.now)) }
+    ensures ordered { IfOk result (λ high. low ≤ℤ high) }
+    ensures high_bound { IfOk result (λ high. high ≤ℤ pos 4294967295) }
+    ensures width { IfOk result (λ high. (high -ℤ low) ≤ℤ pos 4294967295) }
+{
+    let value = entry(table, "high").ok_or(StudyFault::Missing { key })?;
+    high(value, key, low)
+}
+
 /// The parameter of a table, at its place.
 #[tactic(auto, unfolding(crate::specs::StudyFile::parameter_in))]
-pub fn parameter(alloc: Global, place: u32, value: &Value) -> Result<Parameter, StudyFault>
-    ensures { Gives seen result (parameter_in place (view value.now)) }
+pub fn parameter(alloc: Global, place: u32, table: &Value) -> Result<Parameter, StudyFault>
+    ensures { Gives seen result (parameter_in place (view table.now)) }
 {
-    let name_key = Key::ParamName { place };
-    let low_key = Key::ParamLow { place };
-    let high_key = Key::ParamHigh { place };
-    let name = name(alloc, needed_member(value, "name", name_key)?, name_key)?;
-    let low = integer(
-        needed_member(value, "low", low_key)?,
-        low_key,
-        -4294967296,
-        4294967295,
-    )?;
-    let high = high(needed_member(value, "high", high_key)?, high_key, low)?;
+    let name = needed_name(alloc, table, Key::ParamName { place })?;
+    let low = needed_low(table, Key::ParamLow { place })?;
+    let high = needed_high(table, Key::ParamHigh { place }, low)?;
     Ok(Parameter { name, low, high })
 }
 

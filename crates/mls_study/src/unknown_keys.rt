@@ -7,7 +7,7 @@ ghost use Rattle.mls_study.specs.UnknownKeys.{is_known_key, lesser_of, least_unk
 use toml::{Table, Value};
 
 /// Which keys a table may have.
-#[derive(Clone, Copy, Debug)]
+#[derive(Clone, Copy)]
 pub enum TableKind {
     /// Those of a study file.
     Study,
@@ -19,24 +19,24 @@ fn is_known(kind: TableKind, key: &str) -> bool
     ensures { result ≡ is_known_key kind key.now }
 {
     match kind {
-        TableKind::Study => matches!(
-            key,
-            "cells"
-                | "steps"
-                | "groups"
-                | "ranks"
-                | "clients"
-                | "seed"
-                | "samples"
-                | "fields"
-                | "statistics"
-                | "thresholds"
-                | "slots"
-                | "silence"
-                | "lives"
-                | "parameters"
-        ),
-        TableKind::Parameter => matches!(key, "name" | "low" | "high"),
+        TableKind::Study => [
+            "cells",
+            "steps",
+            "groups",
+            "ranks",
+            "clients",
+            "seed",
+            "samples",
+            "fields",
+            "statistics",
+            "thresholds",
+            "slots",
+            "silence",
+            "lives",
+            "parameters",
+        ]
+        .contains(&key),
+        TableKind::Parameter => ["name", "low", "high"].contains(&key),
     }
 }
 
