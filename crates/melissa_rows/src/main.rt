@@ -1,10 +1,15 @@
-//! Carries out the command of each line of the input, over the files that lie where it runs, and prints after the line how
-//! it went and what was written. The kept run has the rows of folds, schedules, watches, designs, words and refusals.
+//! Carries out the command of each line of the input, over the files that lie where it runs, and then the folds of the
+//! largest and the least samples. It prints after each line how it went and what was written. The kept run has the rows of
+//! folds, schedules, watches, designs, words and refusals.
 #![tactic(auto)]
 
 ghost use Rattle.std.specs.Prelude.{◌≡◌, vec_len, IfOk};
 
+mod extremes;
+
+use crate::extremes::extreme_files;
 use mls_base::memory::{MemKeeper, MemSink};
+use mls_base::outside::Files;
 use mls_base::system::StdFiles;
 use mls_cli::melissa;
 use std::alloc::{AllocError, Global};
@@ -24,24 +29,31 @@ fn no_checkpoints(alloc: Global) -> Result<Vec<MemKeeper>, AllocError>
     Ok(keepers)
 }
 
-/// The words of a line, one space between each two.
+/// The words of a line, one space between each two. An empty line has none.
 fn words_of(alloc: Global, line: &str) -> Result<Vec<String>, AllocError> {
     let mut words = Vec::new(alloc);
+    if line.is_empty() {
+        return Ok(words);
+    }
     for word in line.split(' ') {
         words.push(String::from_str(alloc, word)?)?;
     }
     Ok(words)
 }
 
-/// Carries out a line's command and prints what came of it.
-fn print_row(rt: &HostRuntime, alloc: Global, line: &str) -> io::Result<()> {
+/// Carries out a line's command over these files and prints what came of it.
+fn print_row<F: Files>(
+    rt: &HostRuntime,
+    alloc: Global,
+    line: &str,
+    files: &mut F,
+) -> io::Result<()> {
     let words = words_of(alloc, line)?;
     let keepers = no_checkpoints(alloc)?;
-    let mut files = StdFiles::new(rt);
     let Ok(mut sink) = MemSink::new(alloc, ROOM, Vec::new(alloc)) else {
         return println!(rt; "out of memory");
     };
-    let (status, _) = melissa(alloc, words.as_slice(), &mut files, &mut sink, keepers);
+    let (status, _) = melissa(alloc, words.as_slice(), files, &mut sink, keepers);
     println!(rt; "> {line}")?;
     println!(rt; "{}: {status}", status.number())?;
     match std::str::from_utf8(sink.bytes()) {
@@ -52,9 +64,14 @@ fn print_row(rt: &HostRuntime, alloc: Global, line: &str) -> io::Result<()> {
 
 fn main(rt: HostRuntime) -> io::Result<()> {
     let alloc = rt.alloc();
+    let mut files = StdFiles::new(&rt);
     for line in rt.lines(alloc) {
         let line = line?;
-        print_row(&rt, alloc, line.as_str())?;
+        print_row(&rt, alloc, line.as_str(), &mut files)?;
     }
-    Ok(())
+    let Ok(mut files) = extreme_files(alloc) else {
+        return println!(rt; "out of memory");
+    };
+    print_row(&rt, alloc, "fold largest.toml largest.tape", &mut files)?;
+    print_row(&rt, alloc, "fold least.toml least.tape", &mut files)
 }

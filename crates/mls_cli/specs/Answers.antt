@@ -43,6 +43,14 @@ pub record Exactly (right : Result (List ℕ) Status) (refusal answer : Status) 
 abbrev pub IsRight : Result (List ℕ) Status → Type 0
 IsRight right = IsOkAnd right (λ text. ⊤)
 
+-- the text was written, or memory is wanting
+abbrev pub IsDoneOrMemory : Status → Type 0
+IsDoneOrMemory answer = (answer ≡ status.Done) ⊎ (answer ≡ status.Memory)
+
+-- a count of faults of the outside stood still
+abbrev pub DidNotRise : ℕ → ℕ → Type 0
+DidNotRise before now = Rose before now → ⊥
+
 -- what a command sees of its sink: what it tells, and how many writes failed
 pub record SinkState : Type 0 where
   pub told : Option (List ℕ)

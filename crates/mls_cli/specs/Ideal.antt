@@ -1,5 +1,5 @@
 -- What is right: the text that words ask for, or their refusal, from the files that are held.
-use Rattle.std.specs.Prelude.{ℕ, List, Option, Some, None, Result, Ok, Err}
+use Rattle.std.specs.Prelude.{◌≡◌, ℕ, List, Option, Some, None, Result, Ok, Err}
 use Rattle.mls_base.specs.Told.{Names}
 use Rattle.mls_result.specs.declared.status.Status.{Status}
 use Rattle.mls_result.specs.declared.status.Status.TheVariants as status
@@ -11,6 +11,7 @@ use Rattle.mls_cli.specs.Inputs.{◌>>=◌, not_built}
 use Rattle.mls_cli.specs.Fold.{right_fold}
 use Rattle.mls_cli.specs.Watch.{right_watch}
 use Rattle.mls_cli.specs.Design.{right_design}
+use Rattle.mls_cli.specs.Answers.{Exactly}
 
 -- what a command asks for
 abbrev pub right_command : Words → Names → Result (List ℕ) Status
@@ -32,3 +33,7 @@ unfoldable pub ideal : Names → List (List ℕ) → Result (List ℕ) Status
 ideal held words = do
   command ← command_or_usage (words_of words)
   right_command command held
+
+-- Where the files tell what they hold, a refusal is answered exactly where it is the one that these words ask for.
+abbrev pub RefusedExactly : Option Names → (words : List (List ℕ)) → (refusal answer : Status) → Type 0
+RefusedExactly told words refusal answer = (held : Names) → told ≡ Some held → Exactly (ideal held words) refusal answer

@@ -87,3 +87,8 @@ Reads result right = ReadsAs (λ (words : Words). words) result right
 
 abbrev pub ReadsNames : Result FoldNames WordsFault → Option FoldNames → Type 0
 ReadsNames result right = ReadsAs (λ (names : FoldNames). names) result right
+
+-- A number is read as the word spells it; usage is answered exactly where it spells none.
+abbrev pub ReadsNumber : Result ℕ WordsFault → Option ℕ → Type 0
+ReadsNumber (Ok n) right = right ≡ Some n
+ReadsNumber (Err fault) right = (fault ≡ Usage) × (right ≡ None)

@@ -1,6 +1,6 @@
 //! The top call.
 
-ghost use Rattle.std.specs.Prelude.{◌≡◌, ◌↔◌, ◌⊎◌, ℕ, map, string_bytes, vec_len, None, Some};
+ghost use Rattle.std.specs.Prelude.{◌≡◌, ◌↔◌, ℕ, map, string_bytes, vec_len, None, Some};
 ghost use Rattle.mls_base.specs.Told.{Names, Rose};
 ghost use Rattle.mls_study.specs.declared.fault.StudyFault.{StudyFault};
 ghost use Rattle.mls_model.specs.declared.lanes.SchedWhy.{SchedWhy};
@@ -8,8 +8,8 @@ ghost use Rattle.mls_model.specs.declared.lanes.TapeWhy.{TapeWhy};
 ghost use Rattle.mls_result.specs.declared.status.FileRole.{FileRole};
 ghost use Rattle.mls_result.specs.declared.status.Unbuilt.{Unbuilt};
 ghost use Rattle.mls_cli.specs.Words.{words_of};
-ghost use Rattle.mls_cli.specs.Ideal.{right_command, ideal};
-ghost use Rattle.mls_cli.specs.Answers.{Answers, Carries, Exactly, IsQuiet, IsRight, sink};
+ghost use Rattle.mls_cli.specs.Ideal.{RefusedExactly, ideal, right_command};
+ghost use Rattle.mls_cli.specs.Answers.{Answers, Carries, DidNotRise, IsDoneOrMemory, IsQuiet, IsRight, sink};
 ghost use Rattle.mls_cli.specs.Refusals.{seen};
 
 use crate::design::run_design;
@@ -86,12 +86,12 @@ fn run<F: Files, O: Sink, K: Keeper + Drop>(
     }
 }
 
-/// The program `melissa` without its outside: carries out the command that the words say (those after the program's name)
-/// over these files, this sink and these 64 keepers, and says how it went.
+/// The program `melissa` without its outside: carries out the command that the words say (those after the program's
+/// name) over these files, this sink and these 64 keepers, and says how it went.
 ///
-/// Where the files tell what they hold, the sink has gained exactly the text that the words and the named files' bytes ask for
-/// where the answer is `Done`, a front of it after `WriteFault`, and nothing after every other answer. The keepers come back
-/// as they were.
+/// Where the files tell what they hold, the sink has gained exactly the text that the words and the named files' bytes
+/// ask for where the answer is `Done`, a front of it after `WriteFault`, and nothing after every other answer. The
+/// keepers come back as they were.
 pub fn melissa<F: Files, O: Sink, K: Keeper + Drop>(
     alloc: Global,
     words: &[String],
@@ -102,18 +102,25 @@ pub fn melissa<F: Files, O: Sink, K: Keeper + Drop>(
     requires { vec_len keepers ≡ 64 }
 
     // The text that is right, or the refusal that is.
-    ensures right { (held : Names) → F.held files.old ≡ Some held → Answers (ideal held (map string_bytes words.now)) (O.told out.old) (O.told out.new) result.0 }
+    ensures right { (held : Names) → F.held files.old ≡ Some held →
+        Answers (ideal held (map string_bytes words.now)) (O.told out.old) (O.told out.new) result.0 }
 
     // Where the words are no command, told files or not.
     ensures usage { (result.0 ≡ Status.Usage) ↔ (words_of (map string_bytes words.now) ≡ None) }
 
     // Each refusal comes exactly where it is the first, but that memory may be wanting or a read may fail before.
-    ensures study { (held : Names) → F.held files.old ≡ Some held → (fault : StudyFault) → Exactly (ideal held (map string_bytes words.now)) (Status.Study fault) result.0 }
-    ensures tape { (held : Names) → F.held files.old ≡ Some held → (at : ℕ) (why : TapeWhy) → Exactly (ideal held (map string_bytes words.now)) (Status.Tape at why) result.0 }
-    ensures schedule { (held : Names) → F.held files.old ≡ Some held → (line : ℕ) (why : SchedWhy) → Exactly (ideal held (map string_bytes words.now)) (Status.Schedule line why) result.0 }
-    ensures events { (held : Names) → F.held files.old ≡ Some held → (line : ℕ) → Exactly (ideal held (map string_bytes words.now)) (Status.Events line) result.0 }
-    ensures too_long { (held : Names) → F.held files.old ≡ Some held → (file : FileRole) → Exactly (ideal held (map string_bytes words.now)) (Status.TooLong file) result.0 }
-    ensures not_built { (held : Names) → F.held files.old ≡ Some held → (part : Unbuilt) → Exactly (ideal held (map string_bytes words.now)) (Status.NotBuilt part) result.0 }
+    ensures study { (fault : StudyFault) →
+        RefusedExactly (F.held files.old) (map string_bytes words.now) (Status.Study fault) result.0 }
+    ensures tape { (at : ℕ) (why : TapeWhy) →
+        RefusedExactly (F.held files.old) (map string_bytes words.now) (Status.Tape at why) result.0 }
+    ensures schedule { (line : ℕ) (why : SchedWhy) →
+        RefusedExactly (F.held files.old) (map string_bytes words.now) (Status.Schedule line why) result.0 }
+    ensures events { (line : ℕ) →
+        RefusedExactly (F.held files.old) (map string_bytes words.now) (Status.Events line) result.0 }
+    ensures too_long { (file : FileRole) →
+        RefusedExactly (F.held files.old) (map string_bytes words.now) (Status.TooLong file) result.0 }
+    ensures not_built { (part : Unbuilt) →
+        RefusedExactly (F.held files.old) (map string_bytes words.now) (Status.NotBuilt part) result.0 }
 
     // The causes of faults of the outside.
     ensures read_fault { result.0 ≡ Status.ReadFault → Rose (F.load_faults files.old) (F.load_faults files.new) }
@@ -123,7 +130,10 @@ pub fn melissa<F: Files, O: Sink, K: Keeper + Drop>(
     ensures quiet { IsQuiet result.0 → O.told out.new ≡ O.told out.old }
 
     // Where there is a text and no count rose, it is written or memory is wanting.
-    ensures complete { (held : Names) → F.held files.old ≡ Some held → IsRight (ideal held (map string_bytes words.now)) → (Rose (F.load_faults files.old) (F.load_faults files.new) → ⊥) → (Rose (O.faults out.old) (O.faults out.new) → ⊥) → (result.0 ≡ Status.Done) ⊎ (result.0 ≡ Status.Memory) }
+    ensures complete { (held : Names) → F.held files.old ≡ Some held →
+        IsRight (ideal held (map string_bytes words.now)) →
+        DidNotRise (F.load_faults files.old) (F.load_faults files.new) →
+        DidNotRise (O.faults out.old) (O.faults out.new) → IsDoneOrMemory result.0 }
 
     // Each keeper comes back as it was, and the count of failed saves stands.
     ensures keepers { result.1 ≡ keepers }

@@ -18,7 +18,8 @@ use std::alloc::Global;
 
 /// Draws the design and writes its text.
 fn write_drawn<O: Sink>(alloc: Global, study: &Study, out: &mut O) -> Result<(), OutFault>
-    ensures { WritesOut result (design_text study.now) (O.told out.old) (O.told out.new) (O.faults out.old) (O.faults out.new) }
+    ensures { WritesOut result (design_text study.now)
+        (O.told out.old) (O.told out.new) (O.faults out.old) (O.faults out.new) }
 {
     let design = Design::new(alloc, study)?;
     match write_design(study, &design, out) {

@@ -145,7 +145,8 @@ pub(crate) fn load_inputs<F: Files>(
         (right_fold study_name.now tape_name.now schedule_name.now)
         (seen F.held F.load_faults F.save_faults files.old) (seen F.held F.load_faults F.save_faults files.new) result }
     ensures calm { IfOk result (λ inputs. is_calm inputs.tape.lanes ≡ true) }
-    ensures legal { IfOk result (λ inputs. is_legal inputs.study.sizes.ranks inputs.tape.lanes inputs.schedule ≡ true) }
+    ensures legal { IfOk result
+        (λ inputs. is_legal inputs.study.sizes.ranks inputs.tape.lanes inputs.schedule ≡ true) }
 {
     let study = load_study(alloc, files, study_name)?;
     let tape = load_tape(alloc, files, &study, tape_name)?;

@@ -33,8 +33,8 @@ impl<P: Print> SteadyWriter for Printer<'_, P> {
     ghost steady = { λ v w. refl };
 }
 
-/// A sink over a writer that gathers what is written and hands it on in large pieces. Until a write fails it tells what the
-/// writer holds and what is gathered, where the writer tells that.
+/// A sink over a writer that gathers what is written and hands it on in large pieces. Until a write fails it tells what
+/// the writer holds and what is gathered, where the writer tells that.
 #[derive(Drop)]
 pub struct BufferedSink<W: SteadyWriter + Drop> {
     out: BufWriter<W>,
@@ -55,9 +55,12 @@ impl<W: SteadyWriter + Drop> BufferedSink<W> {
 
     /// Writes out what is still gathered. After `Ok` the writer holds all that was told.
     pub fn finish(&mut self) -> Result<(), Failed>
-        ensures handed_on { OnOk result (IfSome (⟦<BufferedSink<W> as Sink>⟧.told self.old) (λ bytes. W.contents (writer_inner self.new.out) ≡ Some bytes)) }
-        ensures faultless { OnOk result (⟦<BufferedSink<W> as Sink>⟧.faults self.new ≡ ⟦<BufferedSink<W> as Sink>⟧.faults self.old) }
-        ensures rose { OnErr result (Rose (⟦<BufferedSink<W> as Sink>⟧.faults self.old) (⟦<BufferedSink<W> as Sink>⟧.faults self.new)) }
+        ensures handed_on { let told = ⟦<BufferedSink<W> as Sink>⟧.told self.old in
+            OnOk result (IfSome told (λ bytes. W.contents (writer_inner self.new.out) ≡ Some bytes)) }
+        ensures faultless { let faults = ⟦<BufferedSink<W> as Sink>⟧.faults in
+            OnOk result (faults self.new ≡ faults self.old) }
+        ensures rose { let faults = ⟦<BufferedSink<W> as Sink>⟧.faults in
+            OnErr result (Rose (faults self.old) (faults self.new)) }
     {
         match self.out.flush() {
             Ok(()) => Ok(()),

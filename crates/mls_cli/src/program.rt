@@ -40,7 +40,8 @@ fn words(rt: &HostRuntime, alloc: Global) -> Result<Vec<String>, Status> {
     }
 }
 
-/// Carries out the command of the words over a writer. `Done` is answered where the writer was handed all that was written.
+/// Carries out the command of the words over a writer. `Done` is answered where the writer was handed all that was
+/// written.
 pub fn run_over<F: Files, W: SteadyWriter + Drop, K: Keeper + Drop>(
     alloc: Global,
     words: &[String],
@@ -49,8 +50,10 @@ pub fn run_over<F: Files, W: SteadyWriter + Drop, K: Keeper + Drop>(
     keepers: Vec<K>,
 ) -> Status
     requires { vec_len keepers ≡ 64 }
-    ensures done { (held : Names) → F.held files.old ≡ Some held → (before : List ℕ) → ⟦<BufferedSink<W> as Sink>⟧.told out.old ≡ Some before → result ≡ Status.Done
-        → IsOkAnd (ideal held (map string_bytes words.now)) (λ text. W.contents (writer_inner out.new.out) ≡ Some (before ++ text)) }
+    ensures done { (held : Names) → F.held files.old ≡ Some held →
+        (before : List ℕ) → ⟦<BufferedSink<W> as Sink>⟧.told out.old ≡ Some before → result ≡ Status.Done →
+        IsOkAnd (ideal held (map string_bytes words.now))
+        (λ text. W.contents (writer_inner out.new.out) ≡ Some (before ++ text)) }
 {
     let (status, _) = melissa(alloc, words, files, out, keepers);
     match status {
@@ -75,8 +78,8 @@ fn answer(rt: &HostRuntime, alloc: Global) -> Result<Status, Status> {
     Ok(run_over(alloc, words.as_slice(), &mut files, &mut out, keepers))
 }
 
-/// The whole program: carries out the command of its words over the files of the system and standard output, prints the reason
-/// of every answer but `Done` on standard error, and ends with the answer's number.
+/// The whole program: carries out the command of its words over the files of the system and standard output, prints the
+/// reason of every answer but `Done` on standard error, and ends with the answer's number.
 pub fn run_program(rt: &HostRuntime) -> ExitCode {
     let status = match answer(rt, rt.alloc()) {
         Ok(status) | Err(status) => status,

@@ -55,7 +55,8 @@ fn load_inputs<F: Files>(
     study_name: &str,
     events_name: &str,
 ) -> Result<WatchInputs, Refusal>
-    ensures { Loads (λ (inputs : WatchInputs). watch_text inputs.study.sizes inputs.events.items) (right_watch study_name.now events_name.now)
+    ensures { Loads (λ (inputs : WatchInputs). watch_text inputs.study.sizes inputs.events.items)
+        (right_watch study_name.now events_name.now)
         (seen F.held F.load_faults F.save_faults files.old) (seen F.held F.load_faults F.save_faults files.new) result }
 {
     let study = load_study(alloc, files, study_name)?;
@@ -65,7 +66,8 @@ fn load_inputs<F: Files>(
 
 /// Writes the watch text.
 fn write_inputs<O: Sink>(alloc: Global, inputs: &WatchInputs, out: &mut O) -> Result<(), OutFault>
-    ensures { WritesOut result (watch_text inputs.now.study.sizes inputs.now.events.items) (O.told out.old) (O.told out.new) (O.faults out.old) (O.faults out.new) }
+    ensures { WritesOut result (watch_text inputs.now.study.sizes inputs.now.events.items)
+        (O.told out.old) (O.told out.new) (O.faults out.old) (O.faults out.new) }
 {
     let shape = inputs.study.shape();
     write_watch(alloc, &shape, inputs.events.as_slice(), out)

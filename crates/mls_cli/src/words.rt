@@ -1,9 +1,10 @@
 //! Which words are a command.
 
-ghost use Rattle.std.specs.Prelude.{◌≡◌, ◌^◌, map, string_bytes, Some, None, MatchResult};
+ghost use Rattle.std.specs.Prelude.{◌≡◌, ◌^◌, map, string_bytes};
 ghost use Rattle.std.specs.List.{list_all};
 ghost use Rattle.mls_text.specs.Decimals.{number_below};
-ghost use Rattle.mls_cli.specs.Words.{is_word, fold_names, fold_in, design_in, trial_in, watch_in, bins_in, export_in, resume_in, command_in, words_of, Reads, ReadsNames};
+ghost use Rattle.mls_cli.specs.Words.{is_word, fold_names, fold_in, design_in, trial_in, watch_in, bins_in, export_in, resume_in, command_in, words_of};
+ghost use Rattle.mls_cli.specs.Words.{Reads, ReadsNames, ReadsNumber};
 
 use mls_study::Name;
 use mls_text::{canonical_number, small_canonical_number};
@@ -170,14 +171,14 @@ fn design_in(alloc: Global, names: &[String]) -> Result<Words, WordsFault>
 
 /// A number below 2^64.
 fn number_of(word: &str) -> Result<u64, WordsFault>
-    ensures { MatchResult result (λ n. number_below (2 ^ 64) word.now ≡ Some n) (λ fault. (fault ≡ WordsFault.Usage) × (number_below (2 ^ 64) word.now ≡ None)) }
+    ensures { ReadsNumber result (number_below (2 ^ 64) word.now) }
 {
     canonical_number(word.as_bytes()).ok_or(WordsFault::Usage)
 }
 
 /// A number below 2^32.
 fn small_number_of(word: &str) -> Result<u32, WordsFault>
-    ensures { MatchResult result (λ n. number_below (2 ^ 32) word.now ≡ Some n) (λ fault. (fault ≡ WordsFault.Usage) × (number_below (2 ^ 32) word.now ≡ None)) }
+    ensures { ReadsNumber result (number_below (2 ^ 32) word.now) }
 {
     small_canonical_number(word.as_bytes()).ok_or(WordsFault::Usage)
 }
@@ -310,9 +311,9 @@ fn command_in(alloc: Global, command: &str, names: &[String]) -> Result<Words, W
 
 /// The command that words are.
 ///
-/// `Usage` is answered exactly where the words are no command: where a word behind the first is empty or begins with `-`, the
-/// first is no command's name, the number of words is another, or a number is no canonical decimal in its range.
-/// `Memory` comes only for words that are one.
+/// `Usage` is answered exactly where the words are no command: where a word behind the first is empty or begins with
+/// `-`, the first is no command's name, the number of words is another, or a number is no canonical decimal in its
+/// range. `Memory` comes only for words that are one.
 #[tactic(auto, unfolding(crate::specs::Words::words_of))]
 pub fn read_words(alloc: Global, words: &[String]) -> Result<Words, WordsFault>
     ensures { Reads result (words_of (map string_bytes words.now)) }

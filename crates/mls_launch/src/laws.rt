@@ -14,10 +14,13 @@ ghost use Rattle.mls_launch.specs.Safety.{own_actions, IsCourse, IsSettled, IsTi
 /// `silence` passed since its last time.
 pub fn launches_safely()
     ensures slots { (s : Sizes) → AreSizes s → (events : List Event) → running s (past_of s events) ≤ s.slots }
-    ensures course { (s : Sizes) → AreSizes s → (events : List Event) (g : ℕ) → IsCourse s.lives g (own_actions s events g) }
-    ensures settled { (s : Sizes) → AreSizes s → (before after : List Event) (g : ℕ) → IsSettled g (past_of s before) →
+    ensures course { (s : Sizes) → AreSizes s → (events : List Event) (g : ℕ) →
+        IsCourse s.lives g (own_actions s events g) }
+    ensures settled { (s : Sizes) → AreSizes s → (before after : List Event) (g : ℕ) →
+        IsSettled g (past_of s before) →
         own_actions s (before ++ after) g ≡ own_actions s before g }
-    ensures ticks { (s : Sizes) (events : List Event) (e : Event) → is_tick e ≡ false → actions_at s (past_of s events) e ≡ [] }
+    ensures ticks { (s : Sizes) (events : List Event) (e : Event) → is_tick e ≡ false →
+        actions_at s (past_of s events) e ≡ [] }
     ensures timely { (s : Sizes) (events : List Event) (e : Event) →
         AllByRecursion (IsTimely s (came e ∷ past_of s events)) (actions_at s (past_of s events) e) }
 {}

@@ -49,8 +49,8 @@ fn lines_of(alloc: Global, tape: &Tape) -> Result<Vec<LaneLine>, NoMemory>
     Ok(lines)
 }
 
-/// The cores of a fold without its text: each rank runs over its whole list, in rising number. Each keeper comes back in its
-/// place; none is called, since the tape holds no save and no crash.
+/// The cores of a fold without its text: each rank runs over its whole list, in rising number. Each keeper comes back in
+/// its place; none is called, since the tape holds no save and no crash.
 pub fn fold_cores<K: Keeper + Drop>(
     alloc: Global,
     study: &Study,
@@ -92,8 +92,9 @@ fn write_cores<O: Sink>(
     }
 }
 
-/// Folds a tape under a schedule and writes the result text: each rank runs over its whole list, in rising number, and then
-/// the text is written. Each keeper comes back in its place; none is called, since the tape holds no save and no crash.
+/// Folds a tape under a schedule and writes the result text: each rank runs over its whole list, in rising number, and
+/// then the text is written. Each keeper comes back in its place; none is called, since the tape holds no save and no
+/// crash.
 pub fn fold<K: Keeper + Drop, O: Sink>(
     alloc: Global,
     study: &Study,

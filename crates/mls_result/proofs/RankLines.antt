@@ -1,5 +1,5 @@
 -- The lines of ranks, counted from 0.
-use Rattle.std.proofs.Common.{◌≡◌, List, ℕ, ◌+◌, ◌<◌, ◌≤◌, length, map, drop, get_or, Option, sym, ◌∙◌, ap, subst, arith}
+use Rattle.std.proofs.Common.{refl, [], ◌∷◌, ◌≡◌, List, ℕ, ◌+◌, ◌<◌, ◌≤◌, length, map, drop, get_or, Option, sym, ◌∙◌, ap, subst, arith}
 use Rattle.std.specs.List.{flat_map, enumerate_from}
 use Rattle.std.proofs.lemmas.List.{length-map, get_or-map, get_or_default}
 use Rattle.std.proofs.lemmas.List.FromFn.{length-enumerate_from, get_or-enumerate_from}
@@ -36,3 +36,8 @@ rank_failed f i xs dx text old mid new before now here out failed =
 pub ranks_all : {X : Type 0} (f : X → Counts) (i : ℕ) (xs : List X) (text : List ℕ) (old new : Option (List ℕ)) (before now : ℕ) → length xs ≤ i → IsFrontOut (flat_map line_of_rank (drop i (enumerate_from 0 (map f xs)))) text old new before now → new ≡ appended old text
 ranks_all f i xs text old new before now past out =
     texts_all line_of_rank i (enumerate_from 0 (map f xs)) text old new before now (omega (arith, past, length-numbered f xs)) out
+
+-- each counts as they are kept
+pub all_kept : (xs : List Counts) → map (λ (counts : Counts). counts) xs ≡ xs
+all_kept [] = refl
+all_kept (x ∷ xs) = ap (λ ys. x ∷ ys) (all_kept xs)

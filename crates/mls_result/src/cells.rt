@@ -11,6 +11,7 @@ ghost use Rattle.mls_result.specs.Places.{IsCellOf};
 ghost use Rattle.mls_field.specs.Stands.{shape_of};
 ghost use Rattle.mls_field.specs.Kept.{sums_at};
 ghost use Rattle.mls_text.specs.Writing.{WritesTo};
+ghost use Rattle.std.proofs.Props.{props};
 ghost use Rattle.mls_model.specs.declared.studies.Statistic.TheVariants.{Power, Extrema, Exceed, Sobol};
 
 use crate::exceed::exceed_line;
@@ -66,40 +67,38 @@ pub fn put_power_lines<O: Sink>(
     power_lines(&powers, &moments, 2 * rows).put(out)
 }
 
+/// A cell of a rank's fold, with the study that it is printed for. A place counts the cells of the rank's block.
+#[derive(Drop)]
+struct FoldedCell<'a> {
+    study: &'a Study,
+    field: &'a Field,
+    plane: u32,
+    place: u32,
+    ghost sizes: { shape_of field.now ≡ study.now.sizes },
+    ghost inside: { IsCellOf field.now plane place } by { Prim.hlevel props },
+}
+
 /// Writes the power lines of a cell where the study shows them.
-fn put_power<O: Sink>(
-    out: &mut O,
-    study: &Study,
-    field: &Field,
-    step: u32,
-    cell: u32,
-) -> Result<(), Failed>
-    requires sizes { shape_of field.now ≡ study.now.sizes }
-    requires cell { IsCellOf field.now step cell }
-    ensures { let text = sums_powers study.now.sizes.signed (sums_at field.now step cell) in
-        WritesTo O.told O.faults out.old out.new result (cond (shows study.now Power) text []) }
+fn put_power<O: Sink>(out: &mut O, cell: &FoldedCell<'_>) -> Result<(), Failed>
+    ensures { let study = cell.now.study.now in
+        let text = sums_powers study.sizes.signed (sums_at cell.now.field.now cell.now.plane cell.now.place) in
+        WritesTo O.told O.faults out.old out.new result (cond (shows study Power) text []) }
 {
-    if study.shows(Statistic::Power) {
-        return put_power_lines(out, field, step, cell);
+    if cell.study.shows(Statistic::Power) {
+        return put_power_lines(out, cell.field, cell.plane, cell.place);
     }
     Ok(())
 }
 
 /// Writes the extrema line of a cell where the study shows it.
-fn put_extrema<O: Sink>(
-    out: &mut O,
-    study: &Study,
-    field: &Field,
-    step: u32,
-    cell: u32,
-) -> Result<(), Failed>
-    requires sizes { shape_of field.now ≡ study.now.sizes }
-    requires cell { IsCellOf field.now step cell }
-    ensures { let text = sums_extrema study.now.sizes.signed (sums_at field.now step cell) in
-        WritesTo O.told O.faults out.old out.new result (cond (shows study.now Extrema) text []) }
+fn put_extrema<O: Sink>(out: &mut O, cell: &FoldedCell<'_>) -> Result<(), Failed>
+    ensures { let study = cell.now.study.now in
+        let text = sums_extrema study.sizes.signed (sums_at cell.now.field.now cell.now.plane cell.now.place) in
+        WritesTo O.told O.faults out.old out.new result (cond (shows study Extrema) text []) }
 {
-    if study.shows(Statistic::Extrema) {
-        return put_extrema_line(out, &study.shape(), field, step, cell);
+    if cell.study.shows(Statistic::Extrema) {
+        let shape = cell.study.shape();
+        return put_extrema_line(out, &shape, cell.field, cell.plane, cell.place);
     }
     Ok(())
 }
@@ -112,63 +111,42 @@ fn has_exceed_line(study: &Study) -> bool
 }
 
 /// Writes the exceed line of a cell where the study shows it and has a threshold.
-fn put_exceed<O: Sink>(
-    out: &mut O,
-    study: &Study,
-    field: &Field,
-    step: u32,
-    cell: u32,
-) -> Result<(), Failed>
-    requires sizes { shape_of field.now ≡ study.now.sizes }
-    requires cell { IsCellOf field.now step cell }
-    ensures { let has_line = shows study.now Exceed && nat_lt 0 (length study.now.sizes.thresholds) in
-        let text = exceed_words (sums_at field.now step cell).above in
+fn put_exceed<O: Sink>(out: &mut O, cell: &FoldedCell<'_>) -> Result<(), Failed>
+    ensures { let study = cell.now.study.now in
+        let has_line = shows study Exceed && nat_lt 0 (length study.sizes.thresholds) in
+        let text = exceed_words (sums_at cell.now.field.now cell.now.plane cell.now.place).above in
         WritesTo O.told O.faults out.old out.new result (cond has_line text []) }
 {
-    if has_exceed_line(study) {
-        let thresholds = study.shape().thresholds();
-        return exceed_line(&field.exceed(step, cell), thresholds).put(out);
+    if has_exceed_line(cell.study) {
+        let thresholds = cell.study.shape().thresholds();
+        return exceed_line(&cell.field.exceed(cell.plane, cell.place), thresholds).put(out);
     }
     Ok(())
 }
 
 /// Writes the Sobol lines of a cell where the study shows them.
-fn put_indices<O: Sink>(
-    out: &mut O,
-    study: &Study,
-    field: &Field,
-    step: u32,
-    cell: u32,
-) -> Result<(), Failed>
-    requires sizes { shape_of field.now ≡ study.now.sizes }
-    requires cell { IsCellOf field.now step cell }
-    ensures { WritesTo O.told O.faults out.old out.new result
-        (cond (shows study.now Sobol) (sums_indices study.now (sums_at field.now step cell)) []) }
+fn put_indices<O: Sink>(out: &mut O, cell: &FoldedCell<'_>) -> Result<(), Failed>
+    ensures { let study = cell.now.study.now in
+        let text = sums_indices study (sums_at cell.now.field.now cell.now.plane cell.now.place) in
+        WritesTo O.told O.faults out.old out.new result (cond (shows study Sobol) text []) }
 {
-    if study.shows(Statistic::Sobol) {
-        let parameters = study.shape().parameters();
-        return put_sobol_lines(out, study, parameters, &field.martinez(step, cell));
+    if cell.study.shows(Statistic::Sobol) {
+        let parameters = cell.study.shape().parameters();
+        let sums = cell.field.martinez(cell.plane, cell.place);
+        return put_sobol_lines(out, cell.study, parameters, &sums);
     }
     Ok(())
 }
 
 /// Writes what is said of a cell's statistics.
-fn put_statistics<O: Sink>(
-    out: &mut O,
-    study: &Study,
-    field: &Field,
-    step: u32,
-    cell: u32,
-) -> Result<(), Failed>
-    requires sizes { shape_of field.now ≡ study.now.sizes }
-    requires cell { IsCellOf field.now step cell }
-    ensures { WritesTo O.told O.faults out.old out.new result
-        (sums_statistics study.now (sums_at field.now step cell)) }
+fn put_statistics<O: Sink>(out: &mut O, cell: &FoldedCell<'_>) -> Result<(), Failed>
+    ensures { let sums = sums_at cell.now.field.now cell.now.plane cell.now.place in
+        WritesTo O.told O.faults out.old out.new result (sums_statistics cell.now.study.now sums) }
 {
-    put_power(out, study, field, step, cell)?;
-    put_extrema(out, study, field, step, cell)?;
-    put_exceed(out, study, field, step, cell)?;
-    put_indices(out, study, field, step, cell)
+    put_power(out, cell)?;
+    put_extrema(out, cell)?;
+    put_exceed(out, cell)?;
+    put_indices(out, cell)
 }
 
 /// Writes all that is said of a cell of a rank's block.
@@ -192,6 +170,12 @@ pub fn put_cell<O: Sink>(
     let plane = shape.plane(step, field);
     let place = cell - shape.block(core.rank()).first;
     let sums = core.folded();
+    let folded = FoldedCell {
+        study,
+        field: sums,
+        plane,
+        place,
+    };
     put_step(out, study, step, field, cell, sums.rows(plane))?;
-    put_statistics(out, study, sums, plane, place)
+    put_statistics(out, &folded)
 }

@@ -2,7 +2,7 @@
 
 ghost use Rattle.std.specs.Prelude.{◌≡◌, ℕ, ◌<◌, ◌++◌, length, map};
 ghost use Rattle.mls_model.specs.ResultText.{rank_lines, lane_lines};
-ghost use Rattle.mls_rank.specs.Cores.{counts_of};
+ghost use Rattle.mls_model.specs.declared.outcomes.Counts.{Counts};
 ghost use Rattle.mls_text.specs.Writing.{WritesTo};
 
 use crate::lines::{lane_line, rank_line};
@@ -13,24 +13,41 @@ use mls_model::outcomes::Counts;
 use mls_rank::RankCore;
 use mls_tape::LaneLine;
 
-/// Writes the counts of each rank's core.
-#[tactic(auto, unfolding(mls_model::specs::ResultText::rank_lines))]
-pub fn put_ranks<O: Sink>(out: &mut O, cores: &[RankCore<Field>]) -> Result<(), Failed>
-    ensures { WritesTo O.told O.faults out.old out.new result (rank_lines (map counts_of cores.now)) }
-{
-    for rank in 0..cores.len() {
-        rank_line(rank as u64, &cores[rank].counts()).put(out)?;
+/// What has the counts of a rank.
+pub(crate) trait HasCounts {
+    /// The counts.
+    ghost kept: { Self → Counts };
+
+    /// How many pieces of the rank had each outcome.
+    fn rank_counts(&self) -> Counts
+        ensures { result ≡ kept self.now };
+}
+
+impl HasCounts for Counts {
+    ghost kept = { λ counts. counts };
+
+    fn rank_counts(&self) -> Counts {
+        *self
     }
-    Ok(())
+}
+
+impl HasCounts for RankCore<Field> {
+    ghost use Rattle.mls_rank.specs.Cores.{counts_of};
+
+    ghost kept = { λ core. counts_of core };
+
+    fn rank_counts(&self) -> Counts {
+        self.counts()
+    }
 }
 
 /// Writes the counts of each rank.
 #[tactic(auto, unfolding(mls_model::specs::ResultText::rank_lines))]
-fn put_counts<O: Sink>(out: &mut O, counts: &[Counts]) -> Result<(), Failed>
-    ensures { WritesTo O.told O.faults out.old out.new result (rank_lines counts.now) }
+pub(crate) fn put_ranks<O: Sink, C: HasCounts>(out: &mut O, ranks: &[C]) -> Result<(), Failed>
+    ensures { WritesTo O.told O.faults out.old out.new result (rank_lines (map C.kept ranks.now)) }
 {
-    for rank in 0..counts.len() {
-        rank_line(rank as u64, &counts[rank]).put(out)?;
+    for rank in 0..ranks.len() {
+        rank_line(rank as u64, &ranks[rank].rank_counts()).put(out)?;
     }
     Ok(())
 }
@@ -55,6 +72,6 @@ pub fn write_ranks<O: Sink>(
 ) -> Result<(), Failed>
     ensures { WritesTo O.told O.faults out.old out.new result (rank_lines counts.now ++ lane_lines lanes.now) }
 {
-    put_counts(out, counts)?;
+    put_ranks(out, counts)?;
     put_lanes(out, lanes)
 }

@@ -4,22 +4,22 @@ use Rattle.mls_cli.proofs.commands.melissa.Goals as goal
 use Rattle.mls_cli.proofs.Exactness.{exact, completed}
 
 pub returns-clause-study : goal.returns-clause-study
-returns-clause-study g c held told fault = exact _ _ _ _ (status.Study fault) tt (c.run.ensures.carried.right held told)
+returns-clause-study g c fault held told = exact _ _ _ _ (status.Study fault) tt (c.run.ensures.carried.right held told)
 
 pub returns-clause-tape : goal.returns-clause-tape
-returns-clause-tape g c held told at why = exact _ _ _ _ (status.Tape at why) tt (c.run.ensures.carried.right held told)
+returns-clause-tape g c at why held told = exact _ _ _ _ (status.Tape at why) tt (c.run.ensures.carried.right held told)
 
 pub returns-clause-schedule : goal.returns-clause-schedule
-returns-clause-schedule g c held told line why = exact _ _ _ _ (status.Schedule line why) tt (c.run.ensures.carried.right held told)
+returns-clause-schedule g c line why held told = exact _ _ _ _ (status.Schedule line why) tt (c.run.ensures.carried.right held told)
 
 pub returns-clause-events : goal.returns-clause-events
-returns-clause-events g c held told line = exact _ _ _ _ (status.Events line) tt (c.run.ensures.carried.right held told)
+returns-clause-events g c line held told = exact _ _ _ _ (status.Events line) tt (c.run.ensures.carried.right held told)
 
 pub returns-clause-too_long : goal.returns-clause-too_long
-returns-clause-too_long g c held told file = exact _ _ _ _ (status.TooLong file) tt (c.run.ensures.carried.right held told)
+returns-clause-too_long g c file held told = exact _ _ _ _ (status.TooLong file) tt (c.run.ensures.carried.right held told)
 
 pub returns-clause-not_built : goal.returns-clause-not_built
-returns-clause-not_built g c held told part = exact _ _ _ _ (status.NotBuilt part) tt (c.run.ensures.carried.right held told)
+returns-clause-not_built g c part held told = exact _ _ _ _ (status.NotBuilt part) tt (c.run.ensures.carried.right held told)
 
 pub returns-clause-complete : goal.returns-clause-complete
 returns-clause-complete g c held told right no_load no_write =

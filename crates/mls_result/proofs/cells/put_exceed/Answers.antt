@@ -8,9 +8,9 @@ use Rattle.mls_result.proofs.cells.put_exceed.Goals as goal
 
 pub returns-then-has_exceed_line : goal.returns-then-has_exceed_line
 returns-then-has_exceed_line g c =
-    let sums = sums_at c.args.field.now c.args.step c.args.cell in
+    let sums = sums_at c.args.cell.now.field.now c.args.cell.now.plane c.args.cell.now.place in
     let shown = cond-true _ _ _ (sym c.has_exceed_line.ensures ∙ c.if-has_exceed_line.true) in
-    let count = c.thresholds-thresholds.ensures.value ∙ ap (λ (z : Sizes). length z.thresholds) (c.shape.ensures ∙ sym c.requires.sizes) in
+    let count = c.thresholds-thresholds.ensures.value ∙ ap (λ (z : Sizes). length z.thresholds) (c.shape.ensures ∙ sym c.args.cell.now.sizes) in
     let line = c.exceed_line.ensures sums.above (c.exceed.ensures.kept.long ∙ sym count) c.exceed.ensures.kept.numbers in
     line_writes _ _ _ _ _ _ _ (sym shown) (line_writes _ _ _ _ _ _ _ line c.put.ensures)
 

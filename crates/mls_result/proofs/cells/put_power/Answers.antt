@@ -12,13 +12,13 @@ use Rattle.mls_result.proofs.cells.put_power.Goals as goal
 
 pub returns-then-shows : goal.returns-then-shows
 returns-then-shows g c =
-    let study = c.args.study.now in
-    let sums = sums_at c.args.field.now c.args.step c.args.cell in
-    let shown : cond (shows study Power) (sums_powers study.sizes.signed sums) [] ≡ sums_powers (shape_of c.args.field.now).signed sums = cond-true _ _ _ (sym c.shows.ensures ∙ c.if-shows.true) ∙ ap (λ (z : Sizes). sums_powers z.signed sums) (sym c.requires.sizes) in
+    let study = c.args.cell.now.study.now in
+    let sums = sums_at c.args.cell.now.field.now c.args.cell.now.plane c.args.cell.now.place in
+    let shown : cond (shows study Power) (sums_powers study.sizes.signed sums) [] ≡ sums_powers (shape_of c.args.cell.now.field.now).signed sums = cond-true _ _ _ (sym c.shows.ensures ∙ c.if-shows.true) ∙ ap (λ (z : Sizes). sums_powers z.signed sums) (sym c.args.cell.now.sizes) in
     let P : List ℕ → Type 0 = λ text. Writes c.put_power_lines.result text (g.O.Sink.told c.args.out.now) (g.O.Sink.told c.put_power_lines.new.out) (g.O.Sink.faults c.args.out.now) (g.O.Sink.faults c.put_power_lines.new.out) in
     subst P (sym shown) c.put_power_lines.ensures
 
 pub returns : goal.returns
 returns g c =
-    let hidden : cond (shows c.args.study.now Power) (sums_powers c.args.study.now.sizes.signed (sums_at c.args.field.now c.args.step c.args.cell)) [] ≡ [] = cond-false _ _ _ (sym c.shows.ensures ∙ c.if-shows.false) in
+    let hidden : cond (shows c.args.cell.now.study.now Power) (sums_powers c.args.cell.now.study.now.sizes.signed (sums_at c.args.cell.now.field.now c.args.cell.now.plane c.args.cell.now.place)) [] ≡ [] = cond-false _ _ _ (sym c.shows.ensures ∙ c.if-shows.false) in
     (sym (appended-nil (g.O.Sink.told c.args.out.now)) ∙ ap (appended (g.O.Sink.told c.args.out.now)) (sym hidden), refl)

@@ -1,9 +1,0 @@
-use Rattle.std.proofs.Common.{drop, map}
-use Rattle.std.specs.List.{flat_map, enumerate_from}
-use Rattle.mls_model.specs.declared.outcomes.Counts.{Counts}
-use Rattle.mls_text.proofs.Writing.{IsFrontOut}
-use Rattle.mls_result.proofs.RankLines.{line_of_rank}
-use Rattle.mls_result.proofs.ranks.put_counts.Given as goal
-
-abbrev pub invariant-loop-rank : goal.invariant-loop-rank
-invariant-loop-rank g l = IsFrontOut (flat_map line_of_rank (drop l.rank (enumerate_from 0 (map (λ (n : Counts). n) l.counts)))) (flat_map line_of_rank (enumerate_from 0 (map (λ (n : Counts). n) l.counts))) (g.O.Sink.told l.fn.out) (g.O.Sink.told l.out) (g.O.Sink.faults l.fn.out) (g.O.Sink.faults l.out)
