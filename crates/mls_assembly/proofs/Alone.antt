@@ -15,7 +15,8 @@ use Rattle.mls_model.specs.Fitting.{Fits}
 use Rattle.mls_assembly.specs.Shares.{Share, share_of, has_all}
 use Rattle.mls_assembly.specs.KeyShares.{KeyShares, share_in}
 use Rattle.mls_assembly.specs.Held.{Held, kept_of, IsPending, ArePending, AreWhole}
-use Rattle.mls_assembly.specs.Pendings.{later_of, greatest_life, PendsAt}
+use Rattle.mls_ckpt.specs.Histories.{later_of, greatest_life}
+use Rattle.mls_assembly.specs.Pendings.{PendsAt}
 use Rattle.mls_assembly.proofs.Latest.{reaches, whole_completed}
 use Rattle.mls_assembly.proofs.Taking.{all_below, open_life}
 use Rattle.mls_assembly.proofs.Storing.{Stored, with_share, stored_first}

@@ -13,7 +13,7 @@ use Rattle.mls_model.specs.Frames.{Piece}
 use Rattle.mls_model.specs.Completion.{Key, key_of, is_of_key, is_later_life, is_share, has_all_shares, makes_whole, is_completed}
 use Rattle.mls_laws.proofs.Places.{from_end}
 use Rattle.mls_laws.proofs.Completing.{same_key, is_completed_more}
-use Rattle.mls_assembly.specs.Pendings.{later_of, greatest_life}
+use Rattle.mls_ckpt.specs.Histories.{later_of, greatest_life}
 
 later_first : (a b : ℕ) (g : Option ℕ) → later_of (Some (later_of g a)) b ≡ later_of (Some (later_of g b)) a
 later_first a b None = omega arith

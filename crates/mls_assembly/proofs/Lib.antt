@@ -7,3 +7,5 @@ pub mod MapKeys
 pub mod Wholes
 pub mod Offering
 pub mod Lending
+pub mod PuttingKeys
+pub mod EntryKeys

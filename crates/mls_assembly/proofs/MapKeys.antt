@@ -26,7 +26,7 @@ then_equal Equal b h = (refl, h)
 then_equal Greater b h = absurd cc
 
 -- the query of a key finds that key alone
-same_place : (g h : GroupStep) → is_at (key_cmp g) h ≡ true → key_at h ≡ key_at g
+pub same_place : (g h : GroupStep) → is_at (key_cmp g) h ≡ true → key_at h ≡ key_at g
 same_place g h at =
     let both = then_equal (nat_cmp g.step h.step) (nat_cmp g.group h.group) (equal_from _ at) in
     let step : g.step ≡ h.step = exact_unsigned g.step h.step (both.0) in

@@ -12,7 +12,8 @@ use Rattle.mls_model.specs.Completion.{Key, key_of, is_later_life, is_share, has
 use Rattle.mls_model.specs.Outcomes.{piece_outcome}
 use Rattle.mls_laws.proofs.Completing.{own_key, is_completed_more}
 use Rattle.mls_assembly.specs.Shares.{Share, share_of, has_all}
-use Rattle.mls_assembly.specs.Pendings.{later_of, greatest_life, PendsAt}
+use Rattle.mls_ckpt.specs.Histories.{later_of, greatest_life}
+use Rattle.mls_assembly.specs.Pendings.{PendsAt}
 use Rattle.mls_assembly.proofs.Latest.{is_after, later_is, reaches, none_of_life, found_is, find_more, find_other}
 use Rattle.mls_assembly.proofs.Taking.{all_below_same, own_share, open_life, own_greatest, still_open, is_some_map, kept_first, Came}
 

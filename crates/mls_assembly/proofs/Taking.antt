@@ -14,7 +14,8 @@ use Rattle.mls_model.specs.Completion.{Key, key_of, is_of_key, is_later_life, is
 use Rattle.mls_model.specs.Outcomes.{piece_outcome}
 use Rattle.mls_laws.proofs.Completing.{own_key, is_completed_more}
 use Rattle.mls_assembly.specs.Shares.{Share, share_of}
-use Rattle.mls_assembly.specs.Pendings.{later_of, greatest_life, PendsAt}
+use Rattle.mls_ckpt.specs.Histories.{later_of, greatest_life}
+use Rattle.mls_assembly.specs.Pendings.{PendsAt}
 use Rattle.mls_assembly.proofs.Latest.{greatest_more, is_after, later_is, found_is, find_more, find_other, other_life, no_share, whole_completed}
 
 -- tests of the numbers below n

@@ -4,3 +4,4 @@ pub mod KeyShares
 pub mod Held
 pub mod Offered
 pub mod Lent
+pub mod Saved

@@ -1,11 +1,14 @@
 //! What is kept of one piece.
 
-ghost use Rattle.std.specs.Prelude.{◌≡◌, ℕ, ◌+◌, ◌-◌, ◌*◌, ◌<◌, ◌≤◌, length, slice_index, take, IfOk};
+ghost use Rattle.std.specs.Prelude.{◌≡◌, ℕ, ◌+◌, ◌-◌, ◌*◌, ◌<◌, ◌≤◌, [], ◌++◌, length, slice_index, take, IfOk, OnOk};
+ghost use Rattle.std.specs.Int.{w16};
+ghost use Rattle.mls_ckpt.specs.Reading.{text, texts};
 ghost use Rattle.mls_frame.specs.Views.{piece_of};
 ghost use Rattle.mls_assembly.specs.Shares.{share_of};
 
 use mls_base::faults::NoMemory;
 use mls_base::rows::Rows;
+use mls_ckpt::Put;
 use mls_frame::PieceView;
 use std::alloc::Global;
 use std::marker::Model;
@@ -66,5 +69,15 @@ impl KeptPiece {
     {
         let place = row as usize * self.count as usize + (cell - self.first) as usize;
         self.samples[place]
+    }
+
+    /// Appends the samples, row by row.
+    pub(crate) fn put(&self, out: &mut Put) -> Result<(), NoMemory>
+        ensures { OnOk result (out.new ≡ out.old ++ texts (text w16) self.now.samples []) }
+    {
+        for &sample in self.samples.as_slice() {
+            out.put_u16(sample)?;
+        }
+        Ok(())
     }
 }

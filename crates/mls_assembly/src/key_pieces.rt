@@ -1,11 +1,15 @@
 //! What is kept of the pieces of one key.
 
-ghost use Rattle.std.specs.Prelude.{◌≡◌, ◌==◌, ℕ, ◌<◌, length, set, cond, is_some, IfOk, Some, None};
+ghost use Rattle.std.specs.Prelude.{◌≡◌, ◌==◌, ℕ, ◌<◌, ◌≤◌, [], ◌++◌, length, set, cond, is_some, IfOk, OnOk, Some, None};
 ghost use Rattle.std.specs.Option.{option_map};
+ghost use Rattle.mls_ckpt.specs.Reading.{texts};
+ghost use Rattle.mls_ckpt.specs.Spellings.{share_text};
 ghost use Rattle.mls_assembly.specs.KeyShares.{share_in};
+ghost use Rattle.mls_assembly.specs.Saved.{slot_shares, shares_from};
 
 use crate::kept_piece::KeptPiece;
 use mls_base::faults::NoMemory;
+use mls_ckpt::Put;
 use std::alloc::Global;
 use std::marker::Model;
 
@@ -70,5 +74,52 @@ impl KeyPieces {
         ensures { option_map (λ piece. piece.now) result ≡ share_in self.now client }
     {
         self.pieces[client as usize].as_ref()
+    }
+
+    /// The number of pieces.
+    pub(crate) fn count(&self) -> u16
+        requires { length self.now.shares ≤ 64 }
+        ensures { result ≡ length (shares_from 0 self.now.shares) }
+    {
+        let mut count = 0;
+        for client in 0..self.pieces.len() as u32 {
+            count += self.count_slot(client);
+        }
+        count
+    }
+
+    // 1 where a client has a piece, else 0.
+    fn count_slot(&self, client: u32) -> u16
+        requires { client < length self.now.shares }
+        ensures { result ≡ length (slot_shares client (share_in self.now client)) }
+    {
+        if self.piece(client).is_some() { 1 } else { 0 }
+    }
+
+    /// Appends the pieces in rising client, each behind its client's number.
+    pub(crate) fn put_all(&self, out: &mut Put) -> Result<(), NoMemory>
+        requires { length self.now.shares ≤ 64 }
+        ensures { OnOk result (out.new ≡ out.old ++ texts share_text (shares_from 0 self.now.shares) []) }
+    {
+        for client in 0..self.pieces.len() as u32 {
+            self.put_slot(client, out)?;
+        }
+        Ok(())
+    }
+
+    // Appends a client's piece, where there is one.
+    #[tactic(auto, unfolding(mls_ckpt::specs::Spellings::share_text))]
+    fn put_slot(&self, client: u32, out: &mut Put) -> Result<(), NoMemory>
+        requires slots { length self.now.shares ≤ 64 }
+        requires client { client < length self.now.shares }
+        ensures { OnOk result (out.new ≡ out.old ++ texts share_text (slot_shares client (share_in self.now client)) []) }
+    {
+        match self.piece(client) {
+            Some(piece) => {
+                out.put_u16(client as u16)?;
+                piece.put(out)
+            }
+            None => Ok(()),
+        }
     }
 }

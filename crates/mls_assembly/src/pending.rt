@@ -1,6 +1,6 @@
 //! The pending pieces of a rank.
 
-ghost use Rattle.std.specs.Prelude.{◌≡◌, ◌≢◌, ◌==◌, ◌&&◌, ℕ, ◌<◌, cond, is_some, IfOk, OnOk, OnErr, IfSome, ◌⊎◌, Some, None, IsSome, IsTrue, ◌↔◌, List, [], true, false};
+ghost use Rattle.std.specs.Prelude.{◌≡◌, ◌≢◌, ◌==◌, ◌&&◌, ℕ, ◌<◌, cond, is_some, IfOk, OnOk, OnErr, IfSome, ◌⊎◌, Some, None, IsSome, IsTrue, ◌↔◌, List, [], ◌++◌, true, false};
 ghost use Rattle.std.specs.Option.{option_map};
 ghost use Rattle.mls_model.specs.Studies.{planes};
 ghost use Rattle.mls_model.specs.Blocks.{block, width};
@@ -14,15 +14,19 @@ ghost use Rattle.mls_assembly.specs.Pendings.{Pends, PendsBut};
 ghost use Rattle.mls_assembly.specs.Held.{Held, key_at, kept_of, life_of, share_at, ArePending, AreRising, KeepsOthers, AreWhole, DropsCompleted};
 ghost use Rattle.mls_assembly.specs.Offered.{IsPartial, Covers, IsOffered, Stores, StoresKept, StoresComplete, Unchanged};
 ghost use Rattle.mls_assembly.specs.Lent.{sizes_of, rank_of, shares_of};
+ghost use Rattle.mls_ckpt.specs.Spellings.{pending_text};
+ghost use Rattle.mls_assembly.specs.Saved.{keys_saved};
 
 use crate::assembled::Assembled;
 use crate::group_step::GroupStep;
 use crate::kept_piece::KeptPiece;
 use crate::key_pieces::KeyPieces;
 use crate::pending_rows::PendingRows;
+use crate::saving::put_key;
 use mls_base::faults::NoMemory;
 use mls_base::rows::Rows;
 use mls_base::shape::Shape;
+use mls_ckpt::Put;
 use mls_frame::PieceView;
 use std::alloc::Global;
 use std::collections::BTreeMap;
@@ -116,7 +120,7 @@ impl Pending {
     }
 
     /// Puts a client's piece beside those of its key and life.
-    fn put(&mut self, key: GroupStep, client: u32, kept: KeptPiece)
+    fn put_piece(&mut self, key: GroupStep, client: u32, kept: KeptPiece)
         requires client { client < self.old.sizes.clients }
         requires fits { IsShare self.old.sizes self.old.rank client kept }
         requires held { IsSome (kept_of self.old (key_at key)) }
@@ -213,7 +217,7 @@ impl Pending {
             return Ok(Assembled::Repeated);
         }
         let kept = KeptPiece::of(self.alloc, piece)?;
-        self.put(key, piece.client() as u32, kept);
+        self.put_piece(key, piece.client() as u32, kept);
         Ok(self.kept_or_complete(key))
     }
 
@@ -292,5 +296,18 @@ impl Pending {
         ensures { IsTrue result ↔ (self.now.entries ≡ []) }
     {
         self.keys.is_empty()
+    }
+
+    /// Appends the number of keys and the keys by rising plane, then group, each with its life and the samples of its pieces in rising client. After want of memory a front of them may stand there.
+    pub fn put(&self, out: &mut Put) -> Result<(), NoMemory>
+        ensures { OnOk result (out.new ≡ out.old ++ pending_text (keys_saved self.now) []) }
+    {
+        self.shape.valid();
+        let keys = self.keys.len();
+        out.put_u32(keys as u32)?;
+        for (key, pieces) in self.keys.iter() {
+            put_key(key, pieces, out)?;
+        }
+        Ok(())
     }
 }

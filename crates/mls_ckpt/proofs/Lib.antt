@@ -5,3 +5,4 @@ pub mod CellLaws
 pub mod StateLaws
 pub mod WholeStates
 pub mod MarkLaws
+pub mod Loops

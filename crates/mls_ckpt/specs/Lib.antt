@@ -7,3 +7,4 @@ pub mod Checkpoints
 pub mod CellParts
 pub mod Laws
 pub mod Histories
+pub mod Recovering

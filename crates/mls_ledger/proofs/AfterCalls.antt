@@ -6,7 +6,8 @@ use lib.Bits.{bit_and}
 use Rattle.std.proofs.lemmas.Bool.{and_left, and_right, le-ltb}
 use Rattle.std.proofs.lemmas.List.{get_or_default}
 use Rattle.std.proofs.lemmas.Nat.Bits.{shr_and_one}
-use Rattle.mls_ledger.specs.MarkSets.{MarkSet, row_len, is_marked, marked, KeepsMarks}
+use Rattle.mls_ckpt.specs.States.{row_len}
+use Rattle.mls_ledger.specs.MarkSets.{MarkSet, is_marked, marked, KeepsMarks}
 use Rattle.mls_ledger.proofs.Bits.{place_in, unmarked_outside, marked_inside, with_mark, with_mark_at, marked_more, marked_room, keeps_more, keeps_zeros, zeros_unmarked, zeros_count}
 
 -- the set after the write of a bit

@@ -11,7 +11,8 @@ use Rattle.std.proofs.lemmas.Nat.Bits.{bit_at_set_same, bit_at_set_other, bit_at
 use Rattle.std.proofs.Math.Nat.{mul-le-mul_right}
 use Rattle.std.proofs.Math.ListN.{length-set, length-replicate, get_or-append}
 use Rattle.mls_model.specs.Numbers.{below}
-use Rattle.mls_ledger.specs.MarkSets.{MarkSet, row_len, is_marked, marked, plane_counts, IsPadded, KeepsMarks}
+use Rattle.mls_ckpt.specs.States.{row_len}
+use Rattle.mls_ledger.specs.MarkSets.{MarkSet, is_marked, marked, plane_counts, IsPadded, KeepsMarks}
 
 get_or-zeros : (n i : ℕ) → ◌≡◌ {A = ℕ} (get_or (replicate n 0) i 0) 0
 get_or-zeros n i = ⊎_elim
@@ -23,7 +24,7 @@ pub length-below : (n : ℕ) → length (below n) ≡ n
 length-below zero = refl
 length-below (suc n) = omega (arith, length-append (below n) (n ∷ []), length-below n)
 
-count_last : (p : ℕ → Bool) (n : ℕ) → count_by p (below (suc n)) ≡ count_by p (below n) + cond (p n) 1 0
+pub count_last : (p : ℕ → Bool) (n : ℕ) → count_by p (below (suc n)) ≡ count_by p (below n) + cond (p n) 1 0
 count_last p n = omega (arith, sum_by-append (λ x. cond (p x) 1 0) (below n) (n ∷ []))
 
 or_false : (b : Bool) → (b || false) ≡ b
@@ -267,10 +268,10 @@ keeps_zeros groups planes = record {
   counted = λ plane within. get_or-zeros planes plane ∙ sym (zeros_count groups planes (planes * row_len groups) plane);
 }
 
-length_made : (f : ℕ → ℕ) (n : ℕ) → length (map f (below n)) ≡ n
+pub length_made : (f : ℕ → ℕ) (n : ℕ) → length (map f (below n)) ≡ n
 length_made f n = length-map (below n) f ∙ length-below n
 
-made_at : (f : ℕ → ℕ) (n k : ℕ) → k < n → get_or (map f (below n)) k 0 ≡ f k
+pub made_at : (f : ℕ → ℕ) (n k : ℕ) → k < n → get_or (map f (below n)) k 0 ≡ f k
 made_at f zero k h = absurd (omega arith)
 made_at f (suc n) k h =
     let parts : map f (below (suc n)) ≡ map f (below n) ++ f n ∷ [] = map-append f (below n) (n ∷ []) in

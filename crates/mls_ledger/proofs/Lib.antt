@@ -1,2 +1,4 @@
 pub mod Bits
 pub mod AfterCalls
+pub mod Rows
+pub mod TakingMarks

@@ -1,1 +1,2 @@
 pub mod MarkSets
+pub mod MarkRows

@@ -2,16 +2,13 @@
 use Rattle.std.specs.Prelude.{◌≡◌, ℕ, ◌+◌, ◌*◌, ◌/◌, ◌%◌, ◌<◌, ◌≤◌, Bool, ◌&&◌, List, length, map, slice_index, count_by, nat_lt, ◌==◌}
 use Rattle.std.specs.Int.{bit_at}
 use Rattle.mls_model.specs.Numbers.{below}
+use Rattle.mls_ckpt.specs.States.{row_len}
 
 -- group g of a plane is bit g % 8 of byte g / 8 of the plane's bytes
 pub record MarkSet : Type 0 where
   pub groups : ℕ
   pub planes : ℕ
   pub bytes : List ℕ
-
--- the number of bytes of one plane
-abbrev pub row_len : ℕ → ℕ
-row_len groups = (groups + 7) / 8
 
 -- the bit at a group's place in a plane's bytes, also at a place past the groups
 abbrev pub bit_of : MarkSet → ℕ → ℕ → ℕ

@@ -2,6 +2,7 @@
 #![tactic(auto)]
 
 pub mod marks;
+mod reading;
 
 pub use marks::Marks;
 

@@ -1,11 +1,19 @@
 //! A set of keys, each a group and a plane, as one bit a key.
 
-ghost use Rattle.std.specs.Prelude.{◌≡◌, ◌==◌, ◌+◌, ◌*◌, ◌/◌, ◌<◌, ℕ, cond, false, length, IfOk, ◌||◌, ◌&&◌, slice_index};
+ghost use Rattle.std.specs.Prelude.{◌≡◌, ◌==◌, ◌+◌, ◌*◌, ◌/◌, ◌<◌, ℕ, cond, false, length, IfOk, OnOk, ◌||◌, ◌&&◌, ◌++◌, [], slice_index};
 ghost use Rattle.mls_model.specs.Studies.{planes};
-ghost use Rattle.mls_ledger.specs.MarkSets.{row_len, is_marked, marked, plane_counts, IsPadded};
+ghost use Rattle.mls_ckpt.specs.Checkpoints.{marks_at};
+ghost use Rattle.mls_ckpt.specs.Places.{cursor_of};
+ghost use Rattle.mls_ckpt.specs.Recovering.{Recovers};
+ghost use Rattle.mls_ckpt.specs.Spellings.{marks_text};
+ghost use Rattle.mls_ckpt.specs.States.{row_len};
+ghost use Rattle.mls_ledger.specs.MarkSets.{is_marked, marked, plane_counts, IsPadded};
+ghost use Rattle.mls_ledger.specs.MarkRows.{rows_of, AreRows};
 
+use crate::reading::{are_bytes, counts_of, take_rows};
 use mls_base::faults::NoMemory;
 use mls_base::shape::Shape;
+use mls_ckpt::{Put, RecoverFault, Take};
 use std::alloc::Global;
 use std::marker::Model;
 
@@ -54,8 +62,9 @@ impl Marks {
     pub fn valid(&self)
         ensures size { length self.now.bytes ≡ self.now.planes * row_len self.now.groups }
         ensures padded { IsPadded self.now }
+        ensures rows { AreRows self.now }
     {
-        let _groups = self.groups;
+        are_bytes(self.bytes.as_slice());
     }
 
     /// Where a key's byte is.
@@ -121,5 +130,35 @@ impl Marks {
     {
         self.bytes.fill(0);
         self.counts.fill(0);
+    }
+    /// Appends the bytes of each plane, in rising plane. After want of memory a front of them may stand there.
+    pub fn put(&self, out: &mut Put) -> Result<(), NoMemory>
+        ensures { OnOk result (out.new ≡ out.old ++ marks_text (rows_of self.now) []) }
+    {
+        out.reserve(self.bytes.len())?;
+        for &byte in self.bytes.as_slice() {
+            out.put_u8(byte)?;
+        }
+        Ok(())
+    }
+
+    /// Takes the marks of a study from bytes. `Bad` tells the first place that is wrong. A fault leaves the place unchanged.
+    pub fn take(alloc: Global, shape: &Shape, from: &mut Take<'_>) -> Result<Marks, RecoverFault>
+        ensures exact { Recovers rows_of (cursor_of from.old) (cursor_of from.new) result (marks_at shape.now (cursor_of from.old)) }
+        ensures groups { IfOk result (λ marks. marks.groups ≡ shape.now.groups) }
+        ensures planes { IfOk result (λ marks. marks.planes ≡ planes shape.now) }
+    {
+        let mut next = *from;
+        let bytes = take_rows(alloc, shape, &mut next)?;
+        let groups = shape.groups();
+        let planes = shape.planes();
+        let counts = counts_of(alloc, groups, planes, bytes.as_slice())?;
+        *from = next;
+        Ok(Marks {
+            groups,
+            planes,
+            bytes,
+            counts,
+        })
     }
 }

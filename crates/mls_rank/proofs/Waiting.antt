@@ -15,7 +15,8 @@ use Rattle.mls_model.specs.Fitting.{Fits}
 use Rattle.mls_laws.proofs.Completing.{same_key, is_completed_more}
 use Rattle.mls_assembly.specs.declared.assembled.Assembled.{Assembled}
 use Rattle.mls_assembly.specs.Shares.{Share, block_sample}
-use Rattle.mls_assembly.specs.Pendings.{greatest_life, Pends, PendsBut}
+use Rattle.mls_ckpt.specs.Histories.{greatest_life}
+use Rattle.mls_assembly.specs.Pendings.{Pends, PendsBut}
 use Rattle.mls_assembly.specs.Held.{Held, kept_of, life_of, share_at, PendsFor}
 use Rattle.mls_assembly.specs.Offered.{offered_sample, Offers}
 use Rattle.mls_assembly.proofs.Taking.{pends_other}

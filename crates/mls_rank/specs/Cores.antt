@@ -3,7 +3,8 @@ use Rattle.std.specs.Prelude.{◌≡◌, ℕ, ◌*◌, Bool, length}
 use Rattle.mls_model.specs.declared.outcomes.Counts.{Counts}
 use Rattle.mls_model.specs.Studies.{Sizes, planes}
 use Rattle.mls_field.specs.declared.fold.RowFold.{Ghosts}
-use Rattle.mls_ledger.specs.MarkSets.{MarkSet, row_len, is_marked, marked, IsPadded}
+use Rattle.mls_ckpt.specs.States.{row_len}
+use Rattle.mls_ledger.specs.MarkSets.{MarkSet, is_marked, marked, IsPadded}
 use Rattle.mls_assembly.specs.Held.{Held}
 use Rattle.mls_rank.specs.declared.rank_core.RankCore.{RankCore}
 

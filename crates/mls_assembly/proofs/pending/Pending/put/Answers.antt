@@ -1,78 +1,35 @@
-use Rattle.std.proofs.Common.{◌≡◌, ℕ, ◌<◌, cond, Option, Some, None, ap, sym, ◌∙◌, subst, arith, IsSome}
-use Rattle.std.specs.Prelude.{◌==◌}
-use Rattle.mls_model.specs.Studies.{Sizes}
-use Rattle.mls_model.specs.Completion.{Key}
-use Rattle.mls_assembly.specs.declared.pending.Pending.TheInside.{Inside}
-use Rattle.mls_assembly.specs.Shares.{Share, IsShare}
-use Rattle.mls_assembly.specs.KeyShares.{KeyShares, share_in}
-use Rattle.mls_assembly.specs.Held.{Held, IsPending, ArePending, key_at, kept_of, share_at}
-use Rattle.mls_assembly.proofs.MapKeys.{others_kept, keeps_changed, pending_more}
+use Rattle.std.proofs.Common.{◌≡◌, ap, sym, ◌∙◌, subst, length, ◌<◌, ◌≤◌, arith}
+use Rattle.std.specs.Map.Iter.{deref_pair}
+use Rattle.std.proofs.lemmas.Map.Iter.{rest_more}
+use Rattle.mls_assembly.specs.Held.{Held}
+use Rattle.mls_assembly.proofs.PuttingKeys.{keys_begin, keys_more}
+use Rattle.mls_assembly.proofs.EntryKeys.{AllEntries, slots_few, few_saved}
 use Rattle.mls_assembly.proofs.pending.Pending.put.Goals as goal
-use Rattle.mls_assembly.proofs.pending.Pending.put.Goals.{in-Some, in_default}
 
-some_same : (a b : KeyShares) → Some a ≡ Some b → a ≡ b
-some_same a b e = cc
+pub overflow_cast-keys : goal.overflow_cast-keys
+overflow_cast-keys c =
+    let held : Held = record { sizes = c.self.inside.shape; rank = c.self.inside.rank; entries = c.self.inside.keys.entries } in
+    let few : length held.entries < 4294967296 = few_saved held c.valid.ensures c.self.invariant c.len-keys.ensures.ordered in
+    omega (arith, c.len-keys.ensures.len)
 
-some_there : (a : KeyShares) (o : Option KeyShares) → Some a ≡ o → IsSome o
-some_there a None e = absurd cc
-some_there a (Some x) e = search
+pub loop-key-init : goal.loop-key-init
+loop-key-init c =
+    let held : Held = record { sizes = c.self.inside.shape; rank = c.self.inside.rank; entries = c.self.inside.keys.entries } in
+    let left : c.into_iter-key-iterator.result ≡ c.self.inside.keys.entries = c.into_iter-key-iterator.ensures.into_iter_gives ∙ c.iter-key-items.ensures.rest in
+    let slots = slots_few held c.valid.ensures c.self.invariant c.len-keys.ensures.ordered in (
+      keys_begin c.args.self.now c.args.out.now c.put_u32.new.self c.len-keys.result c.into_iter-key-iterator.result
+          (left ∙ ap (λ (h : Held). h.entries) c.self.view_is) (c.len-keys.ensures.len ∙ ap (λ (h : Held). length h.entries) c.self.view_is) c.in_ok-put_u32.ensures.ok,
+      subst (AllEntries (λ key pieces. length pieces.shares ≤ 64)) (sym left) slots,
+    )
 
-not_there : (o : Option KeyShares) → None ≡ o → IsSome o → ⊥
-not_there None e h = absurd cc
-not_there (Some x) e h = absurd cc
+pub put_key-requires : goal.put_key-requires
+put_key-requires c =
+    let next = rest_more deref_pair c.loop-key.key-iterator c.next.new.self c.next.result _ c.in-Some.is c.next.ensures.steps in
+    let h = subst (AllEntries (λ key pieces. length pieces.shares ≤ 64)) next c.loop-key.invariant.1 in
+    h.0
 
--- what is seen of the fields
-abbrev seen : Inside → Held
-seen i = record { sizes = i.shape; rank = i.rank; entries = i.keys.entries }
-
-share_from : (held : Held) (key : Key) (client : ℕ) (o : KeyShares) → kept_of held key ≡ Some o → share_at held key client ≡ share_in o client
-share_from held key client o is = ap (λ (x : Option KeyShares). elim x [ None ↦ None | Some y ↦ share_in y client ]) is
-
-pub put-requires : goal.put-requires
-put-requires c =
-    let kept = c.self.invariant.each (key_at c.args.key) c.in-Some.pieces.now (sym c.in-Some.ensures.value) in
-    omega (arith, kept.shares.slots, ap (λ (h : Held). h.sizes.clients) c.self.view_is, c.requires.client)
-
-pub invariant_of-self : goal.invariant_of-self
-invariant_of-self c =
-    elim c.match-get_mut.branch [
-      | in-Some w ↦
-          let kept = c.self.invariant.each (key_at c.args.key) w.in-Some.pieces.now (sym w.in-Some.ensures.value) in
-          subst (λ (i : Inside). ArePending (seen i)) (sym w.self-inside-is)
-          (keeps_changed c.self.inside.shape c.self.inside.rank c.args.key (Some w.put.new.self) c.self.inside.keys.entries (c.get_mut.follows.lender w.put.new.self).entries
-          ((c.get_mut.follows.holds w.put.new.self).3 (some_there w.in-Some.pieces.now _ w.in-Some.ensures.value)).0
-          c.self.invariant
-          (λ o at.
-          subst (IsPending c.self.inside.shape c.self.inside.rank (key_at c.args.key)) (some_same w.put.new.self o at)
-          (pending_more c.self.inside.shape c.self.inside.rank c.args.client (key_at c.args.key) c.args.kept (share_in w.in-Some.pieces.now) w.put.new.self kept.group kept.plane
-          (subst (λ (z : Sizes). c.args.client < z.clients) (sym (ap (λ (h : Held). h.sizes) c.self.view_is)) c.requires.client)
-          (w.put.ensures.slots ∙ kept.shares.slots)
-          (subst (λ (z : Sizes). IsShare z c.self.inside.rank c.args.client c.args.kept) (sym (ap (λ (h : Held). h.sizes) c.self.view_is))
-          (subst (λ (r : ℕ). IsShare c.args.self.now.sizes r c.args.client c.args.kept) (sym (ap (λ (h : Held). h.rank) c.self.view_is)) c.requires.fits))
-          w.put.ensures.shares kept.shares.shares)))
-      | in_default w ↦ absurd (not_there _ (w.in_default.ensures.value ∙ ap (λ (h : Held). kept_of h (key_at c.args.key)) c.self.view_is) c.requires.held)
-    ]
-
-pub returns-clause-shares : goal.returns-clause-shares
-returns-clause-shares c =
-    elim c.match-get_mut.branch [
-      | in-Some w ↦ λ client.
-          let updates = (c.get_mut.follows.holds w.put.new.self).3 (some_there w.in-Some.pieces.now _ w.in-Some.ensures.value) in
-          let was : kept_of c.args.self.now (key_at c.args.key) ≡ Some w.in-Some.pieces.now = ap (λ (h : Held). kept_of h (key_at c.args.key)) (sym c.self.view_is) ∙ sym w.in-Some.ensures.value in
-          ap (λ (i : Inside). share_at (seen i) (key_at c.args.key) client) w.self-inside-is
-          ∙ (share_from (seen (record { alloc = c.self.inside.alloc; shape = c.self.inside.shape; rank = c.self.inside.rank; keys = c.get_mut.follows.lender w.put.new.self })) (key_at c.args.key) client w.put.new.self (updates.1)
-          ∙ (w.put.ensures.shares client
-          ∙ ap (λ (o : Option Share). cond (client == c.args.client) (Some c.args.kept) o) (sym (share_from c.args.self.now (key_at c.args.key) client w.in-Some.pieces.now was))))
-      | in_default w ↦ absurd (not_there _ (w.in_default.ensures.value ∙ ap (λ (h : Held). kept_of h (key_at c.args.key)) c.self.view_is) c.requires.held)
-    ]
-
-pub returns-clause-others : goal.returns-clause-others
-returns-clause-others c =
-    elim c.match-get_mut.branch [
-      | in-Some w ↦ λ key other.
-          ap (λ (i : Inside). kept_of (seen i) key) w.self-inside-is
-          ∙ (others_kept c.args.key (Some w.put.new.self) c.self.inside.keys.entries (c.get_mut.follows.lender w.put.new.self).entries
-          ((c.get_mut.follows.holds w.put.new.self).3 (some_there w.in-Some.pieces.now _ w.in-Some.ensures.value)).0 key other
-          ∙ ap (λ (h : Held). kept_of h key) c.self.view_is)
-      | in_default w ↦ absurd (not_there _ (w.in_default.ensures.value ∙ ap (λ (h : Held). kept_of h (key_at c.args.key)) c.self.view_is) c.requires.held)
-    ]
+pub loop-key-preserved : goal.loop-key-preserved
+loop-key-preserved c =
+    let next = rest_more deref_pair c.loop-key.key-iterator c.next.new.self c.next.result _ c.in-Some.is c.next.ensures.steps in
+    let h = subst (AllEntries (λ key pieces. length pieces.shares ≤ 64)) next c.loop-key.invariant.1 in
+    (keys_more c.loop-key.out c.put_key.new.out _ _ c.loop-key.key-iterator c.next.new.self next c.in_ok-put_key.ensures c.loop-key.invariant.0, h.1)
