@@ -111,9 +111,9 @@ pub fn head_of(len: u64, front: &[u8]) -> Head
 fn has_shut_gate(front: &[u8]) -> bool
     ensures { (bytes : List ℕ) → front.now ≡ take head_length bytes → result ≡ is_shut bytes }
 {
-    match front.first() {
-        Some(gate) => *gate != 1,
-        None => false,
+    match front {
+        [gate, ..] => *gate != 1,
+        [] => false,
     }
 }
 
