@@ -49,6 +49,8 @@ pub fn add_outputs(
 }
 
 /// Adds the samples that begin at `c` in each row to four columns: those of the samples, of their squares, and of their products with the samples at `a` and at `b`.
+// A caller that adds for one parameter after the other would else test once for all of them whether columns overlap, and a step would add to one sum.
+#[inline(never)]
 #[tactic(auto, using(mls_power::proofs::AfterRows::after_none, mls_power::proofs::AfterRows::after_more))]
 pub fn add_products(
     words: &mut [u64],
