@@ -11,7 +11,7 @@ use Rattle.mls_field.specs.ColumnSums.{products_column, powers_column, column_at
 use Rattle.mls_field.specs.Gathered.{row_behind}
 use Rattle.mls_field.specs.Walk.{Walk}
 use Rattle.mls_field.specs.declared.columns.Column.{Column}
-use Rattle.mls_field.specs.declared.columns.Column.TheVariants.{Samples, Products, Cubes, LowFourths, HighFourths}
+use Rattle.mls_field.specs.declared.columns.Column.TheVariants.{Samples, Products, Cubes}
 use Rattle.mls_field.proofs.Behind.{in_row}
 use Rattle.mls_field.proofs.ColumnPlaces.{product_there, power_there}
 use Rattle.mls_field.proofs.Walks.{apart_rows, same_after}

@@ -1,9 +1,8 @@
 //! Adding eight rows that wait to the columns of sums of a plane's cells.
 
 ghost use Rattle.std.specs.Prelude.{◌≡◌, ℕ, ◌+◌, ◌-◌, ◌*◌, ◌^◌, ◌<◌, ◌≤◌, List, length, slice_index};
-ghost use Rattle.mls_field.specs.ColumnSums.{sums_size, products_column, powers_column, column_at, sums_step, IsWithin, most_before};
-ghost use Rattle.mls_field.specs.OutputSteps.{ends_step, numbers_step};
-ghost use Rattle.mls_field.specs.Gathered.{row_behind};
+ghost use Rattle.mls_field.specs.ColumnSums.{sums_size, products_column, powers_column, column_at, IsWithin};
+ghost use Rattle.mls_field.specs.EightRows.{sums_steps, ends_steps, numbers_steps, HasRoomForEight};
 ghost use Rattle.mls_field.specs.Walk.{Walk};
 
 use mls_base::shape::Shape;
@@ -86,8 +85,9 @@ fn add_to_columns(
     requires row { row + sums_size parameters < 2 ^ 63 }
     requires words { (row + sums_size parameters) * places ≤ length words.old }
     requires samples { start + (parameters + 2) * places * 8 ≤ length samples.now }
-    requires room { (c i : ℕ) → c < sums_size parameters → from ≤ i → i < from + count → slice_index words.old ((row + c) * places + i) ≤ most_before (column_at parameters c) }
-    ensures { Walk row (sums_size parameters) places from (from + count) words.old words.new (λ c i g n. sums_step parameters c (row_behind (parameters + 2) places samples.now start i g) n) }
+    requires room { HasRoomForEight parameters row places from (from + count) words.old }
+    ensures { let step = sums_steps parameters places samples.now start in
+        Walk row (sums_size parameters) places from (from + count) words.old words.new step }
 {
     let stride = (parameters as usize + 2) * places;
     let a = start + from;
@@ -116,8 +116,9 @@ pub(crate) fn add_to_sums(
     requires row { row + sums_size parameters < 2 ^ 63 }
     requires words { (row + sums_size parameters) * places ≤ length words.old }
     requires samples { start + (parameters + 2) * places * 8 ≤ length samples.now }
-    requires room { (c i : ℕ) → c < sums_size parameters → i < places → slice_index words.old ((row + c) * places + i) ≤ most_before (column_at parameters c) }
-    ensures { Walk row (sums_size parameters) places 0 places words.old words.new (λ c i g n. sums_step parameters c (row_behind (parameters + 2) places samples.now start i g) n) }
+    requires room { HasRoomForEight parameters row places 0 places words.old }
+    ensures { let step = sums_steps parameters places samples.now start in
+        Walk row (sums_size parameters) places 0 places words.old words.new step }
 {
     let mut from = 0;
     while from < places {
@@ -140,7 +141,7 @@ pub(crate) fn add_to_ends(
     requires row { row + 2 < 2 ^ 63 }
     requires ends { (row + 2) * places ≤ length ends.old }
     requires samples { start + (parameters + 2) * places * 8 ≤ length samples.now }
-    ensures { Walk row 2 places 0 places ends.old ends.new (λ c i g n. ends_step c (row_behind (parameters + 2) places samples.now start i g) n) }
+    ensures { Walk row 2 places 0 places ends.old ends.new (ends_steps parameters places samples.now start) }
 {
     let stride = (parameters as usize + 2) * places;
     let at = row * places;
@@ -161,8 +162,11 @@ pub(crate) fn add_to_numbers(
     requires row { row + length shape.now.thresholds < 2 ^ 63 }
     requires numbers { (row + length shape.now.thresholds) * places ≤ length numbers.old }
     requires samples { start + (shape.now.parameters + 2) * places * 8 ≤ length samples.now }
-    requires room { (c i : ℕ) → c < length shape.now.thresholds → i < places → slice_index numbers.old ((row + c) * places + i) ≤ 131070 }
-    ensures { Walk row (length shape.now.thresholds) places 0 places numbers.old numbers.new (λ c i g n. numbers_step shape.now.thresholds c (row_behind (shape.now.parameters + 2) places samples.now start i g) n) }
+    requires room { (c i : ℕ) → c < length shape.now.thresholds → i < places →
+        slice_index numbers.old ((row + c) * places + i) ≤ 131070 }
+    ensures { let thresholds = shape.now.thresholds in
+        let step = numbers_steps shape.now.parameters thresholds places samples.now start in
+        Walk row (length thresholds) places 0 places numbers.old numbers.new step }
 {
     let stride = (shape.parameters() as usize + 2) * places;
     let b = start + places;

@@ -1,4 +1,4 @@
-use Rattle.std.proofs.Common.{◌≡◌, ℕ, ◌+◌, ◌*◌, ◌<◌, ◌≤◌, List, subst, arith}
+use Rattle.std.proofs.Common.{◌≡◌, ℕ, ◌+◌, ◌*◌, List, subst, arith}
 use Rattle.mls_field.specs.ColumnSums.{sums_size}
 use Rattle.mls_field.specs.Walk.{Walk}
 use Rattle.mls_field.proofs.FourSums.{steps_of, four_more, products_room, powers_room, outputs_more, products_more, powers_more}
