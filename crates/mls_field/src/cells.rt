@@ -1,7 +1,8 @@
 //! The numbers of a single cell: read from their columns, and with the rows that wait for them.
 
 ghost use Rattle.std.specs.Prelude.{◌≡◌, ℕ, ◌+◌, ◌*◌, ◌^◌, ◌<◌, ◌≤◌, List, length, slice_index};
-ghost use Rattle.mls_power.specs.Standing.{count_of, first_of as power_first, second_of as power_second, third_of as power_third, fourth_of as power_fourth};
+ghost use Rattle.mls_power.specs.Standing.{count_of, first_of as power_first, second_of as power_second};
+ghost use Rattle.mls_power.specs.Standing.{third_of as power_third, fourth_of as power_fourth};
 ghost use Rattle.mls_field.specs.EightRows.{AddsRows};
 ghost use Rattle.mls_field.specs.ColumnSums.{sums_size, of_column, column_at, sums_step, IsWithin, most_added};
 ghost use Rattle.mls_field.specs.Gathered.{row_behind};

@@ -107,7 +107,8 @@ impl Field {
     ghost use Rattle.mls_power.specs.Standing.{count_of, StandsFor as PowerStandsFor, ArePowers};
     ghost use Rattle.mls_power.specs.ExtremaStanding.{ExtremaStandFor};
     ghost use Rattle.mls_power.specs.ExceedStanding.{exceed_count_of, ExceedStandsFor};
-    ghost use Rattle.mls_cov.specs.Standing.{count_of as martinez_count_of, parameters_of, StandsFor as MartinezStandsFor};
+    ghost use Rattle.mls_cov.specs.Standing.{count_of as martinez_count_of, parameters_of};
+    ghost use Rattle.mls_cov.specs.Standing.{StandsFor as MartinezStandsFor};
     ghost use Rattle.mls_field.specs.Stands.{shape_of, rank_of, row_count, StandsFor};
     ghost use Rattle.mls_field.specs.ColumnSums.{sums_size};
     ghost use Rattle.mls_field.specs.Gathered.{plane_start};
