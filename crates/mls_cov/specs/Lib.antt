@@ -3,3 +3,4 @@ pub mod Rules
 pub mod Steps
 pub mod Standing
 pub mod ColumnSteps
+pub mod SumsAdded

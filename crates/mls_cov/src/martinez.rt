@@ -94,7 +94,8 @@ fn spread_top(count: u32, x: u64, squares: u64) -> u128
 }
 
 impl Martinez {
-    ghost use Rattle.std.specs.Prelude.{◌≡◌, ℕ, ◌+◌, ◌*◌, ◌^◌, ◌<◌, ◌≤◌, ◌↔◌, Bool, List, [], ◌∷◌, ◌++◌, length, map, slice_index, unsigned_abs, IsSome, IfSome};
+    ghost use Rattle.std.specs.Prelude.{◌≡◌, ℕ, ◌+◌, ◌*◌, ◌^◌, ◌<◌, ◌≤◌, ◌↔◌, Bool, List, [], ◌∷◌, ◌++◌, length};
+    ghost use Rattle.std.specs.Prelude.{map, slice_index, unsigned_abs, IsSome, IfSome};
     ghost use Rattle.mls_model.specs.Samples.{unshifted};
     ghost use Rattle.mls_model.specs.Statistics.{column, covariance_top, spread_top};
     ghost use Rattle.mls_cov.specs.Sums.{HoldsSums};
@@ -123,7 +124,8 @@ impl Martinez {
         ensures count { count_of result ≡ count }
         ensures parameters { parameters_of result ≡ parameters }
         ensures sums { (i : ℕ) → i < 4 + 4 * parameters → slice_index (sums_in result) i ≡ slice_index words.now i }
-        ensures stands { (rows : List (List ℕ)) → length rows ≡ count → HoldsSums parameters words.now rows → StandsFor result rows }
+        ensures stands { (rows : List (List ℕ)) → length rows ≡ count → HoldsSums parameters words.now rows →
+            StandsFor result rows }
     {
         let mut sums = no_sums();
         for i in 0..4 + 4 * parameters as usize {
@@ -182,11 +184,18 @@ impl Martinez {
     pub fn index(&self, k: u32) -> IndexParts
         requires { k < parameters_of self.now }
         ensures formulas { ArePartsOf (count_of self.now) k (sums_in self.now) result }
-        ensures cov_b { (signed : Bool) (rows : List (List ℕ)) → StandsFor self.now rows → let values = map (map (unshifted signed)) rows in result.cov_b ≡ covariance_top (column 1 values) (column (2 + k) values) }
-        ensures cov_a { (signed : Bool) (rows : List (List ℕ)) → StandsFor self.now rows → let values = map (map (unshifted signed)) rows in result.cov_a ≡ covariance_top (column 0 values) (column (2 + k) values) }
-        ensures var_a { (signed : Bool) (rows : List (List ℕ)) → StandsFor self.now rows → result.var_a ≡ spread_top (column 0 (map (map (unshifted signed)) rows)) }
-        ensures var_b { (signed : Bool) (rows : List (List ℕ)) → StandsFor self.now rows → result.var_b ≡ spread_top (column 1 (map (map (unshifted signed)) rows)) }
-        ensures var_c { (signed : Bool) (rows : List (List ℕ)) → StandsFor self.now rows → result.var_c ≡ spread_top (column (2 + k) (map (map (unshifted signed)) rows)) }
+        ensures cov_b { (signed : Bool) (rows : List (List ℕ)) → StandsFor self.now rows →
+            let values = map (map (unshifted signed)) rows in result.cov_b ≡
+            covariance_top (column 1 values) (column (2 + k) values) }
+        ensures cov_a { (signed : Bool) (rows : List (List ℕ)) → StandsFor self.now rows →
+            let values = map (map (unshifted signed)) rows in result.cov_a ≡
+            covariance_top (column 0 values) (column (2 + k) values) }
+        ensures var_a { (signed : Bool) (rows : List (List ℕ)) → StandsFor self.now rows → result.var_a ≡
+            spread_top (column 0 (map (map (unshifted signed)) rows)) }
+        ensures var_b { (signed : Bool) (rows : List (List ℕ)) → StandsFor self.now rows → result.var_b ≡
+            spread_top (column 1 (map (map (unshifted signed)) rows)) }
+        ensures var_c { (signed : Bool) (rows : List (List ℕ)) → StandsFor self.now rows → result.var_c ≡
+            spread_top (column (2 + k) (map (map (unshifted signed)) rows)) }
         ensures within_b { unsigned_abs result.cov_b * unsigned_abs result.cov_b ≤ result.var_b * result.var_c }
         ensures within_a { unsigned_abs result.cov_a * unsigned_abs result.cov_a ≤ result.var_a * result.var_c }
         ensures small_a { result.var_a < 2 ^ 62 }
@@ -208,7 +217,8 @@ impl Martinez {
     pub fn of(count: u32, parameters: u32, sums: [u64; SUM_COUNT]) -> Option<Martinez>
         requires few { count ≤ 65535 }
         requires parameters { parameters ≤ 16 }
-        ensures decides { IsSome result ↔ (KeepsRules count parameters sums × ((i : ℕ) → 4 + 4 * parameters ≤ i → slice_index sums i ≡ 0)) }
+        ensures decides { IsSome result ↔
+            (KeepsRules count parameters sums × ((i : ℕ) → 4 + 4 * parameters ≤ i → slice_index sums i ≡ 0)) }
         ensures read { IfSome result (λ m. (count_of m ≡ count) × (parameters_of m ≡ parameters) × (sums_in m ≡ sums)) }
     {
         if !keeps_rules(count, parameters, &sums) {

@@ -56,8 +56,12 @@ fn add_samples(sums: &mut [u64], parameters: usize, samples: &[u16], at: usize, 
     requires row { at + stride * (parameters + 1) < length samples.now }
     requires size { 4 + 4 * parameters ≤ length sums.old }
     requires space { HasSpace parameters sums.old }
-    ensures outputs { let a = slice_index samples.now at in let b = slice_index samples.now (at + stride) in Grew 0 sums.old sums.new a b (a * a) (b * b) }
-    ensures columns { (k : ℕ) → k < parameters → let a = slice_index samples.now at in let b = slice_index samples.now (at + stride) in let c = slice_index samples.now (at + stride * (2 + k)) in Grew (4 + 4 * k) sums.old sums.new c (c * c) (a * c) (b * c) }
+    ensures outputs { let a = slice_index samples.now at in let b = slice_index samples.now (at + stride) in
+        Grew 0 sums.old sums.new a b (a * a) (b * b) }
+    ensures columns { (k : ℕ) → k < parameters → let a = slice_index samples.now at in
+        let b = slice_index samples.now (at + stride) in
+        let c = slice_index samples.now (at + stride * (2 + k)) in
+        Grew (4 + 4 * k) sums.old sums.new c (c * c) (a * c) (b * c) }
     ensures beyond { (i : ℕ) → 4 + 4 * parameters ≤ i → slice_index sums.new i ≡ slice_index sums.old i }
 {
     let a = samples[at];
@@ -75,7 +79,10 @@ pub fn add_row_at(sums: &mut [u64], parameters: u32, samples: &[u16], at: usize,
     requires size { 4 + 4 * parameters ≤ length sums.old }
     requires room { HasRoom parameters sums.old }
     ensures rules { (n : ℕ) → KeepsRules n parameters sums.old → KeepsRules (n + 1) parameters sums.new }
-    ensures adds { (row : List ℕ) → length row ≡ parameters + 2 → ((j : ℕ) → j < parameters + 2 → slice_index row j ≡ slice_index samples.now (at + stride * j)) → (rows : List (List ℕ)) → HoldsSums parameters sums.old rows → HoldsSums parameters sums.new (rows ++ row ∷ []) }
+    ensures adds { (row : List ℕ) → length row ≡ parameters + 2 →
+        ((j : ℕ) → j < parameters + 2 → slice_index row j ≡ slice_index samples.now (at + stride * j)) →
+        (rows : List (List ℕ)) → HoldsSums parameters sums.old rows →
+        HoldsSums parameters sums.new (rows ++ row ∷ []) }
     ensures beyond { (i : ℕ) → 4 + 4 * parameters ≤ i → slice_index sums.new i ≡ slice_index sums.old i }
 {
     add_samples(sums, parameters as usize, samples, at, stride);
@@ -88,7 +95,8 @@ pub fn add_row(sums: &mut [u64], parameters: u32, row: &[u16])
     requires size { 4 + 4 * parameters ≤ length sums.old }
     requires room { HasRoom parameters sums.old }
     ensures rules { (n : ℕ) → KeepsRules n parameters sums.old → KeepsRules (n + 1) parameters sums.new }
-    ensures adds { (rows : List (List ℕ)) → HoldsSums parameters sums.old rows → HoldsSums parameters sums.new (rows ++ row.now ∷ []) }
+    ensures adds { (rows : List (List ℕ)) → HoldsSums parameters sums.old rows →
+        HoldsSums parameters sums.new (rows ++ row.now ∷ []) }
     ensures beyond { (i : ℕ) → 4 + 4 * parameters ≤ i → slice_index sums.new i ≡ slice_index sums.old i }
 {
     add_row_at(sums, parameters, row, 0, 1);

@@ -14,3 +14,4 @@ pub mod Added
 pub mod Zeros
 pub mod Kept
 pub mod Whole
+pub mod FourSums

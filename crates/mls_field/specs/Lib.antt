@@ -9,3 +9,5 @@ pub mod OutputSteps
 pub mod OneCell
 pub mod Kept
 pub mod Stands
+pub mod EightRows
+pub mod FieldSteps

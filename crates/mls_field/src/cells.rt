@@ -1,8 +1,9 @@
 //! The numbers of a single cell: read from their columns, and with the rows that wait for them.
 
 ghost use Rattle.std.specs.Prelude.{◌≡◌, ℕ, ◌+◌, ◌*◌, ◌^◌, ◌<◌, ◌≤◌, List, length, slice_index};
-ghost use Rattle.mls_power.specs.Standing.{count_of, first_of as power_first, second_of as power_second, third_of as power_third, fourth_of as power_fourth};
-ghost use Rattle.mls_field.specs.Cells.{with_rows};
+ghost use Rattle.mls_power.specs.Standing.{count_of, first_of as power_first, second_of as power_second};
+ghost use Rattle.mls_power.specs.Standing.{third_of as power_third, fourth_of as power_fourth};
+ghost use Rattle.mls_field.specs.EightRows.{AddsRows};
 ghost use Rattle.mls_field.specs.ColumnSums.{sums_size, of_column, column_at, sums_step, IsWithin, most_added};
 ghost use Rattle.mls_field.specs.Gathered.{row_behind};
 ghost use Rattle.mls_field.specs.Kinds.{SumsWithin, first_of, second_of, third_of, fourth_of};
@@ -45,8 +46,10 @@ fn add_row(sums: &mut [u64], parameters: u32, samples: &[u16], at: usize, places
     requires few { parameters ≤ 16 }
     requires size { sums_size parameters ≤ length sums.old }
     requires samples { (r : ℕ) → r < parameters + 2 → at + r * places < length samples.now }
-    requires room { (c : ℕ) → c < sums_size parameters → slice_index sums.old c + most_added (column_at parameters c) < 2 ^ 64 }
-    ensures { (row : List ℕ) → IsRowAt (parameters + 2) places at samples.now row → Stepped (sums_step parameters) (sums_size parameters) row sums.old sums.new }
+    requires room { (c : ℕ) → c < sums_size parameters →
+        slice_index sums.old c + most_added (column_at parameters c) < 2 ^ 64 }
+    ensures { (row : List ℕ) → IsRowAt (parameters + 2) places at samples.now row →
+        Stepped (sums_step parameters) (sums_size parameters) row sums.old sums.new }
 {
     for c in 0..8 + 4 * parameters as usize {
         let column = column_of(parameters, c);
@@ -71,7 +74,8 @@ pub(crate) fn add_rows_to_sums(
     requires samples { start + (parameters + 2) * places * 8 ≤ length samples.now }
     requires room { HasRoomFor (SumsWithin parameters) waiting sums.old }
     ensures range { (count : ℕ) → SumsWithin parameters count sums.old → SumsWithin parameters (count + waiting) sums.new }
-    ensures whole { (cell : List ℕ) → length cell ≡ sums_size parameters → SameFront (sums_size parameters) sums.old cell → SameFront (sums_size parameters) sums.new (with_rows (sums_step parameters) (row_behind (parameters + 2) places samples.now start place) waiting cell) }
+    ensures whole { let row = row_behind (parameters + 2) places samples.now start place in
+        AddsRows (sums_step parameters) (sums_size parameters) row waiting sums.old sums.new }
 {
     let stride = (parameters as usize + 2) * places;
     for g in 0..waiting {
@@ -100,7 +104,8 @@ pub(crate) fn add_rows_to_ends(
     requires waiting { waiting ≤ 7 }
     requires place { place < places }
     requires samples { start + (parameters + 2) * places * 8 ≤ length samples.now }
-    ensures whole { (cell : List ℕ) → length cell ≡ 2 → SameFront 2 ends.old cell → SameFront 2 ends.new (with_rows ends_step (row_behind (parameters + 2) places samples.now start place) waiting cell) }
+    ensures whole { let row = row_behind (parameters + 2) places samples.now start place in
+        AddsRows ends_step 2 row waiting ends.old ends.new }
 {
     let stride = (parameters as usize + 2) * places;
     for g in 0..waiting {
@@ -111,7 +116,8 @@ pub(crate) fn add_rows_to_ends(
 
 fn add_pair_to_ends(ends: &mut [u16], a: u16, b: u16)
     requires { length ends.old ≡ 2 }
-    ensures { (row : List ℕ) → slice_index row 0 ≡ a → slice_index row 1 ≡ b → Stepped ends_step 2 row ends.old ends.new }
+    ensures { (row : List ℕ) → slice_index row 0 ≡ a → slice_index row 1 ≡ b →
+        Stepped ends_step 2 row ends.old ends.new }
 {
     ends[0] = ends[0].min(a).min(b);
     ends[1] = ends[1].max(a).max(b);
@@ -120,7 +126,9 @@ fn add_pair_to_ends(ends: &mut [u16], a: u16, b: u16)
 fn add_pair_to_numbers(numbers: &mut [u32], shape: &Shape, a: u16, b: u16)
     requires size { length shape.now.thresholds ≤ length numbers.old }
     requires room { (c : ℕ) → c < length shape.now.thresholds → slice_index numbers.old c ≤ 131068 }
-    ensures { (row : List ℕ) → slice_index row 0 ≡ a → slice_index row 1 ≡ b → Stepped (numbers_step shape.now.thresholds) (length shape.now.thresholds) row numbers.old numbers.new }
+    ensures { let thresholds = shape.now.thresholds in
+        (row : List ℕ) → slice_index row 0 ≡ a → slice_index row 1 ≡ b →
+        Stepped (numbers_step thresholds) (length thresholds) row numbers.old numbers.new }
 {
     for c in 0..shape.thresholds() {
         let threshold = shape.threshold(c);
@@ -144,7 +152,9 @@ pub(crate) fn add_rows_to_numbers(
     requires place { place < places }
     requires samples { start + (shape.now.parameters + 2) * places * 8 ≤ length samples.now }
     requires room { (c : ℕ) → c < length shape.now.thresholds → slice_index numbers.old c + 2 * waiting ≤ 131070 }
-    ensures whole { (cell : List ℕ) → length cell ≡ length shape.now.thresholds → SameFront (length shape.now.thresholds) numbers.old cell → SameFront (length shape.now.thresholds) numbers.new (with_rows (numbers_step shape.now.thresholds) (row_behind (shape.now.parameters + 2) places samples.now start place) waiting cell) }
+    ensures whole { let thresholds = shape.now.thresholds in
+        let row = row_behind (shape.now.parameters + 2) places samples.now start place in
+        AddsRows (numbers_step thresholds) (length thresholds) row waiting numbers.old numbers.new }
 {
     let stride = (shape.parameters() as usize + 2) * places;
     for g in 0..waiting {

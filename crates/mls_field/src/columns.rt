@@ -1,15 +1,13 @@
 //! Adding eight rows that wait to the columns of sums of a plane's cells.
 
 ghost use Rattle.std.specs.Prelude.{◌≡◌, ℕ, ◌+◌, ◌-◌, ◌*◌, ◌^◌, ◌<◌, ◌≤◌, List, length, slice_index};
-ghost use Rattle.mls_power.specs.Columns.{Walked};
-ghost use Rattle.mls_field.specs.ColumnSums.{sums_size, of_column, products_column, powers_column, column_at, sums_step, IsWithin, most_before};
-ghost use Rattle.mls_field.specs.OutputSteps.{ends_step, numbers_step};
-ghost use Rattle.mls_field.specs.Gathered.{row_behind};
+ghost use Rattle.mls_field.specs.ColumnSums.{sums_size, products_column, powers_column, column_at, IsWithin};
+ghost use Rattle.mls_field.specs.EightRows.{sums_steps, ends_steps, numbers_steps, HasRoomForEight};
 ghost use Rattle.mls_field.specs.Walk.{Walk};
 
 use mls_base::shape::Shape;
-use mls_cov::columns::{add_products, add_samples};
-use mls_power::columns::{add_cubes, add_high, add_low, count_above, take_greatest, take_least};
+use mls_cov::columns::{add_outputs, add_products};
+use mls_power::columns::{add_powers, count_above, take_greatest, take_least};
 
 /// What the sums of a column are of.
 #[derive(Clone, Copy)]
@@ -68,41 +66,8 @@ pub(crate) fn column_of(parameters: u32, c: usize) -> Column
     }
 }
 
-/// Adds eight rows to a column at so many places. The rows' samples lie behind `start`, which is that of the first place.
-fn add_to_column(
-    words: &mut [u64],
-    at: usize,
-    count: usize,
-    column: Column,
-    parameters: u32,
-    samples: &[u16],
-    start: usize,
-    places: usize,
-)
-    requires few { parameters ≤ 16 }
-    requires column { IsWithin (parameters + 2) column }
-    requires words { at + count ≤ length words.old }
-    requires samples { (r : ℕ) → r < parameters + 2 → (parameters + 2) * places * 7 + (start + r * places + count) ≤ length samples.now }
-    requires room { (k : ℕ) → k < count → slice_index words.old (at + k) ≤ most_before column }
-    ensures { Walked at count 8 words.old words.new (λ k g n. n + of_column column (row_behind (parameters + 2) places samples.now start k g)) }
-{
-    let stride = (parameters as usize + 2) * places;
-    match column {
-        Column::Samples { x } => {
-            add_samples(words, at, count, samples, start + x * places, stride)
-        }
-        Column::Products { x, y } => {
-            let (x, y) = (start + x * places, start + y * places);
-            add_products(words, at, count, samples, x, y, stride)
-        }
-        Column::Cubes { x } => add_cubes(words, at, count, samples, start + x * places, stride),
-        Column::LowFourths => add_low(words, at, count, samples, start, start + places, stride),
-        Column::HighFourths => add_high(words, at, count, samples, start, start + places, stride),
-    }
-}
-
 // How many places are walked at a time, so that their sums and the samples that wait for them lie in cache for all columns.
-const CHUNK: usize = 128;
+const CHUNK: usize = 1024;
 
 /// Adds eight rows to all columns at so many places from `from` on. The columns stand in a list from row `row` on, where each row has a number for each place.
 fn add_to_columns(
@@ -120,23 +85,22 @@ fn add_to_columns(
     requires row { row + sums_size parameters < 2 ^ 63 }
     requires words { (row + sums_size parameters) * places ≤ length words.old }
     requires samples { start + (parameters + 2) * places * 8 ≤ length samples.now }
-    requires room { (c i : ℕ) → c < sums_size parameters → from ≤ i → i < from + count → slice_index words.old ((row + c) * places + i) ≤ most_before (column_at parameters c) }
-    ensures { Walk row (sums_size parameters) places from (from + count) words.old words.new (λ c i g n. sums_step parameters c (row_behind (parameters + 2) places samples.now start i g) n) }
+    requires room { HasRoomForEight parameters row places from (from + count) words.old }
+    ensures { let step = sums_steps parameters places samples.now start in
+        Walk row (sums_size parameters) places from (from + count) words.old words.new step }
 {
-    for c in 0..8 + 4 * parameters as usize {
-        let column = column_of(parameters, c);
-        let at = (row + c) * places + from;
-        add_to_column(
-            words,
-            at,
-            count,
-            column,
-            parameters,
-            samples,
-            start + from,
-            places,
-        );
+    let stride = (parameters as usize + 2) * places;
+    let a = start + from;
+    let b = start + places + from;
+    let at = row * places + from;
+    add_outputs(words, at, places, count, samples, a, b, stride);
+    for k in 0..parameters as usize {
+        let at = (row + 4 + 4 * k) * places + from;
+        let c = start + (k + 2) * places + from;
+        add_products(words, at, places, count, samples, a, b, c, stride);
     }
+    let at = (row + 4 + 4 * parameters as usize) * places + from;
+    add_powers(words, at, places, count, samples, a, b, stride);
 }
 
 /// Adds eight rows to all columns at all places.
@@ -152,8 +116,9 @@ pub(crate) fn add_to_sums(
     requires row { row + sums_size parameters < 2 ^ 63 }
     requires words { (row + sums_size parameters) * places ≤ length words.old }
     requires samples { start + (parameters + 2) * places * 8 ≤ length samples.now }
-    requires room { (c i : ℕ) → c < sums_size parameters → i < places → slice_index words.old ((row + c) * places + i) ≤ most_before (column_at parameters c) }
-    ensures { Walk row (sums_size parameters) places 0 places words.old words.new (λ c i g n. sums_step parameters c (row_behind (parameters + 2) places samples.now start i g) n) }
+    requires room { HasRoomForEight parameters row places 0 places words.old }
+    ensures { let step = sums_steps parameters places samples.now start in
+        Walk row (sums_size parameters) places 0 places words.old words.new step }
 {
     let mut from = 0;
     while from < places {
@@ -176,7 +141,7 @@ pub(crate) fn add_to_ends(
     requires row { row + 2 < 2 ^ 63 }
     requires ends { (row + 2) * places ≤ length ends.old }
     requires samples { start + (parameters + 2) * places * 8 ≤ length samples.now }
-    ensures { Walk row 2 places 0 places ends.old ends.new (λ c i g n. ends_step c (row_behind (parameters + 2) places samples.now start i g) n) }
+    ensures { Walk row 2 places 0 places ends.old ends.new (ends_steps parameters places samples.now start) }
 {
     let stride = (parameters as usize + 2) * places;
     let at = row * places;
@@ -197,8 +162,11 @@ pub(crate) fn add_to_numbers(
     requires row { row + length shape.now.thresholds < 2 ^ 63 }
     requires numbers { (row + length shape.now.thresholds) * places ≤ length numbers.old }
     requires samples { start + (shape.now.parameters + 2) * places * 8 ≤ length samples.now }
-    requires room { (c i : ℕ) → c < length shape.now.thresholds → i < places → slice_index numbers.old ((row + c) * places + i) ≤ 131070 }
-    ensures { Walk row (length shape.now.thresholds) places 0 places numbers.old numbers.new (λ c i g n. numbers_step shape.now.thresholds c (row_behind (shape.now.parameters + 2) places samples.now start i g) n) }
+    requires room { (c i : ℕ) → c < length shape.now.thresholds → i < places →
+        slice_index numbers.old ((row + c) * places + i) ≤ 131070 }
+    ensures { let thresholds = shape.now.thresholds in
+        let step = numbers_steps shape.now.parameters thresholds places samples.now start in
+        Walk row (length thresholds) places 0 places numbers.old numbers.new step }
 {
     let stride = (shape.parameters() as usize + 2) * places;
     let b = start + places;

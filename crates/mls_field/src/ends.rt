@@ -19,8 +19,10 @@ fn fill_column(ends: &mut [u16], at: usize, places: usize, end: u16)
 pub(crate) fn clear_ends(ends: &mut [u16], planes: usize, places: usize)
     requires few { planes * 2 < 2 ^ 62 }
     requires size { planes * 2 * places ≤ length ends.old }
-    ensures least { (plane place : ℕ) → plane < planes → place < places → slice_index ends.new ((plane * 2) * places + place) ≡ 65535 }
-    ensures greatest { (plane place : ℕ) → plane < planes → place < places → slice_index ends.new ((plane * 2 + 1) * places + place) ≡ 0 }
+    ensures least { (plane place : ℕ) → plane < planes → place < places →
+        slice_index ends.new ((plane * 2) * places + place) ≡ 65535 }
+    ensures greatest { (plane place : ℕ) → plane < planes → place < places →
+        slice_index ends.new ((plane * 2 + 1) * places + place) ≡ 0 }
 {
     for plane in 0..planes {
         fill_column(ends, plane * 2 * places, places, NO_EXTREMA[0]);

@@ -99,23 +99,25 @@ impl RowFold for Field {
 }
 
 impl Field {
-    ghost use Rattle.std.specs.Prelude.{◌≡◌, ◌==◌, ℕ, ◌+◌, ◌*◌, ◌<◌, ◌≤◌, length, map, slice_index, cond};
-    ghost use Rattle.mls_model.specs.Samples.{unshifted};
+    ghost use Rattle.std.specs.Prelude.{◌≡◌, ℕ, ◌+◌, ◌*◌, ◌<◌, ◌≤◌, length, slice_index};
     ghost use Rattle.mls_model.specs.Studies.{planes};
     ghost use Rattle.mls_model.specs.Blocks.{block, width};
-    ghost use Rattle.mls_model.specs.Standing.{Table, with_block};
-    ghost use Rattle.mls_model.specs.Statistics.{outputs, variance_top, third_top};
+    ghost use Rattle.mls_model.specs.Standing.{Table};
+    ghost use Rattle.mls_model.specs.Statistics.{variance_top, third_top};
     ghost use Rattle.mls_power.specs.Standing.{count_of, StandsFor as PowerStandsFor, ArePowers};
     ghost use Rattle.mls_power.specs.ExtremaStanding.{ExtremaStandFor};
     ghost use Rattle.mls_power.specs.ExceedStanding.{exceed_count_of, ExceedStandsFor};
-    ghost use Rattle.mls_cov.specs.Standing.{count_of as martinez_count_of, parameters_of, StandsFor as MartinezStandsFor};
+    ghost use Rattle.mls_cov.specs.Standing.{count_of as martinez_count_of, parameters_of};
+    ghost use Rattle.mls_cov.specs.Standing.{StandsFor as MartinezStandsFor};
     ghost use Rattle.mls_field.specs.Stands.{shape_of, rank_of, row_count, StandsFor};
     ghost use Rattle.mls_field.specs.ColumnSums.{sums_size};
     ghost use Rattle.mls_field.specs.Gathered.{plane_start};
     ghost use Rattle.mls_field.specs.Kinds.{SumsWithin};
     ghost use Rattle.mls_field.specs.OneCell.{SameFront};
-    ghost use Rattle.mls_field.specs.ShiftedRows.{shifted_row, shifted_outputs};
-    ghost use Rattle.mls_field.specs.Kept.{sums_in_cell, ends_in_cell, numbers_in_cell, sums_at, HasPowers, HasEnds, HasNumbers, HasProducts, HasValuePowers};
+    ghost use Rattle.mls_field.specs.ShiftedRows.{shifted_outputs};
+    ghost use Rattle.mls_field.specs.FieldSteps.{CountsOneMore, StandsForMore, values_of, AreOutputs};
+    ghost use Rattle.mls_field.specs.Kept.{sums_in_cell, ends_in_cell, numbers_in_cell, sums_at};
+    ghost use Rattle.mls_field.specs.Kept.{HasPowers, HasEnds, HasNumbers, HasProducts, HasValuePowers};
     ghost use Rattle.mls_model.specs.CellSums.{sums_of};
     ghost use Rattle.mls_model.specs.SumsText.{height, variance_top_of, third_top_of};
 
@@ -128,8 +130,8 @@ impl Field {
         requires waiting { slice_index self.old.waiting.items step < 7 }
         ensures shape { shape_of self.new ≡ shape_of self.old }
         ensures rank { rank_of self.new ≡ rank_of self.old }
-        ensures counted { (plane : ℕ) → row_count self.new plane ≡ cond (plane == step) (row_count self.old plane + 1) (row_count self.old plane) }
-        ensures stands { (t : Table) → StandsFor self.old t → StandsFor self.new (with_block t step (width (block (shape_of self.old) (rank_of self.old))) (shifted_row (shape_of self.old).signed (R.row_count rows.now) (R.sample rows.now))) }
+        ensures counted { CountsOneMore self.old self.new step }
+        ensures stands { StandsForMore self.old self.new step (R.row_count rows.now) (R.sample rows.now) }
     {
         let plane = step as usize;
         let stride = (self.shape.parameters() as usize + 2) * self.places as usize;
@@ -154,8 +156,8 @@ impl Field {
         requires waiting { slice_index self.old.waiting.items step ≡ 7 }
         ensures shape { shape_of self.new ≡ shape_of self.old }
         ensures rank { rank_of self.new ≡ rank_of self.old }
-        ensures counted { (plane : ℕ) → row_count self.new plane ≡ cond (plane == step) (row_count self.old plane + 1) (row_count self.old plane) }
-        ensures stands { (t : Table) → StandsFor self.old t → StandsFor self.new (with_block t step (width (block (shape_of self.old) (rank_of self.old))) (shifted_row (shape_of self.old).signed (R.row_count rows.now) (R.sample rows.now))) }
+        ensures counted { CountsOneMore self.old self.new step }
+        ensures stands { StandsForMore self.old self.new step (R.row_count rows.now) (R.sample rows.now) }
     {
         let plane = step as usize;
         let places = self.places as usize;
@@ -206,8 +208,12 @@ impl Field {
         ensures value { result ≡ row_count self.now step }
         ensures few { result ≤ 65535 }
         ensures kept { (place : ℕ) → (sums_at self.now step place).rows ≡ result }
-        ensures sums { (t : Table) → StandsFor self.now t → (place : ℕ) → place < width (block (shape_of self.now) (rank_of self.now)) → sums_at self.now step place ≡ sums_of (shape_of self.now).parameters (shape_of self.now).thresholds (t step place) }
-        ensures table { (t : Table) → StandsFor self.now t → (place : ℕ) → place < width (block (shape_of self.now) (rank_of self.now)) → length (t step place) ≡ result }
+        ensures sums { let s = shape_of self.now in
+            (t : Table) → StandsFor self.now t → (place : ℕ) → place < width (block s (rank_of self.now)) →
+            sums_at self.now step place ≡ sums_of s.parameters s.thresholds (t step place) }
+        ensures table { let s = shape_of self.now in
+            (t : Table) → StandsFor self.now t → (place : ℕ) → place < width (block s (rank_of self.now)) →
+            length (t step place) ≡ result }
     {
         self.counts[step as usize]
     }
@@ -322,7 +328,7 @@ impl Field {
         requires cell_in { cell < width (block (shape_of self.now) (rank_of self.now)) }
         ensures kept { HasEnds (sums_at self.now step cell) result }
         ensures ends { (t : Table) → StandsFor self.now t → ExtremaStandFor result (shifted_outputs (t step cell)) }
-        ensures outputs { (t : Table) → StandsFor self.now t → outputs (map (map (unshifted (shape_of self.now).signed)) (t step cell)) ≡ map (unshifted (shape_of self.now).signed) (shifted_outputs (t step cell)) }
+        ensures outputs { (t : Table) → StandsFor self.now t → AreOutputs self.now (t step cell) }
     {
         let ends = self.whole_ends(step, cell);
         Extrema::unpacked(&ends)
@@ -334,8 +340,9 @@ impl Field {
         requires cell_in { cell < width (block (shape_of self.now) (rank_of self.now)) }
         ensures count { exceed_count_of result ≡ 2 * row_count self.now step }
         ensures kept { HasNumbers (length (shape_of self.now).thresholds) (sums_at self.now step cell) result }
-        ensures numbers { (t : Table) → StandsFor self.now t → ExceedStandsFor (shape_of self.now).thresholds result (shifted_outputs (t step cell)) }
-        ensures outputs { (t : Table) → StandsFor self.now t → outputs (map (map (unshifted (shape_of self.now).signed)) (t step cell)) ≡ map (unshifted (shape_of self.now).signed) (shifted_outputs (t step cell)) }
+        ensures numbers { let thresholds = (shape_of self.now).thresholds in
+            (t : Table) → StandsFor self.now t → ExceedStandsFor thresholds result (shifted_outputs (t step cell)) }
+        ensures outputs { (t : Table) → StandsFor self.now t → AreOutputs self.now (t step cell) }
     {
         let numbers = self.whole_numbers(step, cell);
         let size = self.shape.thresholds() as usize;
@@ -360,7 +367,7 @@ impl Field {
         requires step_in { step < planes (shape_of self.now) }
         requires cell_in { cell < width (block (shape_of self.now) (rank_of self.now)) }
         ensures kept { HasValuePowers (height (shape_of self.now).signed) (sums_at self.now step cell) result }
-        ensures values { (t : Table) → StandsFor self.now t → ArePowers result (outputs (map (map (unshifted (shape_of self.now).signed)) (t step cell))) }
+        ensures values { (t : Table) → StandsFor self.now t → ArePowers result (values_of self.now (t step cell)) }
     {
         self.power(step, cell).powers(self.shape.signed())
     }
@@ -370,7 +377,7 @@ impl Field {
         requires step_in { step < planes (shape_of self.now) }
         requires cell_in { cell < width (block (shape_of self.now) (rank_of self.now)) }
         ensures kept { result ≡ variance_top_of (sums_at self.now step cell) }
-        ensures values { (t : Table) → StandsFor self.now t → result ≡ variance_top (outputs (map (map (unshifted (shape_of self.now).signed)) (t step cell))) }
+        ensures values { (t : Table) → StandsFor self.now t → result ≡ variance_top (values_of self.now (t step cell)) }
     {
         self.power(step, cell).variance_top()
     }
@@ -380,7 +387,7 @@ impl Field {
         requires step_in { step < planes (shape_of self.now) }
         requires cell_in { cell < width (block (shape_of self.now) (rank_of self.now)) }
         ensures kept { result ≡ third_top_of (sums_at self.now step cell) }
-        ensures values { (t : Table) → StandsFor self.now t → result ≡ third_top (outputs (map (map (unshifted (shape_of self.now).signed)) (t step cell))) }
+        ensures values { (t : Table) → StandsFor self.now t → result ≡ third_top (values_of self.now (t step cell)) }
     {
         self.power(step, cell).third_top()
     }

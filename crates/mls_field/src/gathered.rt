@@ -18,7 +18,8 @@ fn gather_row<R: Rows>(samples: &mut [u16], at: usize, signed: bool, rows: &R, r
     requires row { row < R.row_count rows.now }
     requires size { at + R.place_count rows.now ≤ length samples.old }
     ensures small { ((i : ℕ) → slice_index samples.old i ≤ 65535) → (i : ℕ) → slice_index samples.new i ≤ 65535 }
-    ensures values { (i : ℕ) → i < R.place_count rows.now → slice_index samples.new (at + i) ≡ shifted signed (R.sample rows.now row i) }
+    ensures values { (i : ℕ) → i < R.place_count rows.now →
+        slice_index samples.new (at + i) ≡ shifted signed (R.sample rows.now row i) }
     ensures before { (j : ℕ) → j < at → slice_index samples.new j ≡ slice_index samples.old j }
     ensures behind { (j : ℕ) → at + R.place_count rows.now ≤ j → slice_index samples.new j ≡ slice_index samples.old j }
 {
@@ -31,9 +32,12 @@ fn gather_row<R: Rows>(samples: &mut [u16], at: usize, signed: bool, rows: &R, r
 pub(crate) fn gather<R: Rows>(samples: &mut [u16], start: usize, signed: bool, rows: &R)
     requires size { start + R.row_count rows.now * R.place_count rows.now ≤ length samples.old }
     ensures small { ((i : ℕ) → slice_index samples.old i ≤ 65535) → (i : ℕ) → slice_index samples.new i ≤ 65535 }
-    ensures values { (r i : ℕ) → r < R.row_count rows.now → i < R.place_count rows.now → slice_index samples.new (start + r * R.place_count rows.now + i) ≡ shifted signed (R.sample rows.now r i) }
+    ensures values { let places = R.place_count rows.now in
+        (r i : ℕ) → r < R.row_count rows.now → i < places →
+        slice_index samples.new (start + r * places + i) ≡ shifted signed (R.sample rows.now r i) }
     ensures before { (j : ℕ) → j < start → slice_index samples.new j ≡ slice_index samples.old j }
-    ensures behind { (j : ℕ) → start + R.row_count rows.now * R.place_count rows.now ≤ j → slice_index samples.new j ≡ slice_index samples.old j }
+    ensures behind { let end = start + R.row_count rows.now * R.place_count rows.now in
+        (j : ℕ) → end ≤ j → slice_index samples.new j ≡ slice_index samples.old j }
 {
     let places = rows.cells() as usize;
     for row in 0..rows.rows() {

@@ -1,5 +1,5 @@
 -- What one more row makes of a number.
-use Rattle.std.proofs.Common.{◌≡◌, ℕ, zero, suc, ◌+◌, add-one, ap, ◌∙◌, refl}
+use Rattle.std.proofs.Common.{◌≡◌, ℕ, suc, ◌+◌, add-one, ap, ◌∙◌, refl}
 use Rattle.mls_power.specs.Columns.{after}
 
 pub after_none : (step : ℕ → ℕ → ℕ) (start : ℕ) → after step 0 start ≡ start

@@ -7,3 +7,5 @@ pub mod NumbersAbove
 pub mod PowerSums
 pub mod Rules
 pub mod Standing
+pub mod FourColumns
+pub mod PowersAdded

@@ -19,7 +19,8 @@ pub fn add_above(numbers: &mut [u32], shape: &Shape, x: u16)
     requires size { length shape.now.thresholds ≤ length numbers.old }
     requires room { AreNumbersAbove 131069 numbers.old }
     ensures range { (n : ℕ) → AreNumbersAbove n numbers.old → AreNumbersAbove (n + 1) numbers.new }
-    ensures adds { (ws : List ℕ) → HoldsAbove shape.now.thresholds numbers.old ws → HoldsAbove shape.now.thresholds numbers.new (ws ++ x ∷ []) }
+    ensures adds { (ws : List ℕ) → HoldsAbove shape.now.thresholds numbers.old ws →
+        HoldsAbove shape.now.thresholds numbers.new (ws ++ x ∷ []) }
     ensures behind { (i : ℕ) → length shape.now.thresholds ≤ i → slice_index numbers.new i ≡ slice_index numbers.old i }
 {
     for i in 0..shape.thresholds() {
@@ -32,7 +33,8 @@ pub fn add_pair_above(numbers: &mut [u32], shape: &Shape, x: u16, y: u16)
     requires size { length shape.now.thresholds ≤ length numbers.old }
     requires room { AreNumbersAbove 131068 numbers.old }
     ensures range { (n : ℕ) → AreNumbersAbove n numbers.old → AreNumbersAbove (n + 2) numbers.new }
-    ensures adds { (ws : List ℕ) → HoldsAbove shape.now.thresholds numbers.old ws → HoldsAbove shape.now.thresholds numbers.new ((ws ++ x ∷ []) ++ y ∷ []) }
+    ensures adds { (ws : List ℕ) → HoldsAbove shape.now.thresholds numbers.old ws →
+        HoldsAbove shape.now.thresholds numbers.new ((ws ++ x ∷ []) ++ y ∷ []) }
     ensures behind { (i : ℕ) → length shape.now.thresholds ≤ i → slice_index numbers.new i ≡ slice_index numbers.old i }
 {
     for i in 0..shape.thresholds() {

@@ -2,7 +2,8 @@
 
 ghost use Rattle.std.specs.Prelude.{◌≡◌, ℕ, ◌+◌, ◌*◌, ◌^◌, ◌/◌, ◌%◌, ◌<◌, ◌≤◌, length, slice_index};
 ghost use Rattle.mls_power.specs.Columns.{Walked};
-ghost use Rattle.mls_power.specs.ColumnSteps.{more_cubes, more_low, more_high, more_least, more_greatest, more_above};
+ghost use Rattle.mls_power.specs.PowersAdded.{most_cubes, ArePowersAdded};
+ghost use Rattle.mls_power.specs.ColumnSteps.{more_least, more_greatest, more_above};
 
 use crate::above::one_if_above;
 
@@ -42,83 +43,46 @@ pub fn high_half(x: u64) -> u64
     x >> 32
 }
 
-/// Adds the cubes of the samples that begin at `x` in each row.
+/// Adds the powers of the samples that begin at `a` and at `b` in each row to four columns: the cubes of the first samples, those of the second,
+/// and of the fourth powers of both the low halves and the high halves.
 #[tactic(auto, using(crate::proofs::AfterRows::after_none, crate::proofs::AfterRows::after_more))]
-pub fn add_cubes(
+pub fn add_powers(
     words: &mut [u64],
     at: usize,
+    apart: usize,
     count: usize,
     samples: &[u16],
-    x: usize,
+    a: usize,
+    b: usize,
     stride: usize,
 )
-    requires words { at + count ≤ length words.old }
-    requires samples { stride * 7 + (x + count) ≤ length samples.now }
-    requires room { (k : ℕ) → k < count → slice_index words.old (at + k) ≤ 281462092005375 * 65527 }
-    ensures { Walked at count 8 words.old words.new (more_cubes samples.now stride x) }
+    requires apart { count ≤ apart }
+    requires words { at + 3 * apart + count ≤ length words.old }
+    requires samples_a { stride * 7 + (a + count) ≤ length samples.now }
+    requires samples_b { stride * 7 + (b + count) ≤ length samples.now }
+    requires room_first { (k : ℕ) → k < count → slice_index words.old (at + k) ≤ most_cubes }
+    requires room_second { (k : ℕ) → k < count → slice_index words.old (at + apart + k) ≤ most_cubes }
+    requires room_third { (k : ℕ) → k < count → slice_index words.old (at + 2 * apart + k) < 2 ^ 63 }
+    requires room_fourth { (k : ℕ) → k < count → slice_index words.old (at + 3 * apart + k) < 2 ^ 63 }
+    ensures { ArePowersAdded at apart count words.old words.new samples.now stride a b }
 {
     for j in 0..count {
-        let mut sum = words[at + j];
+        let mut cubes_a = words[at + j];
+        let mut cubes_b = words[at + apart + j];
+        let mut low = words[at + 2 * apart + j];
+        let mut high = words[at + 3 * apart + j];
         for g in 0..GROUPS {
-            sum += cube(samples[stride * g + (x + j)]);
+            let of_a = samples[stride * g + (a + j)];
+            let of_b = samples[stride * g + (b + j)];
+            cubes_a += cube(of_a);
+            cubes_b += cube(of_b);
+            low += low_half(fourth(of_a)) + low_half(fourth(of_b));
+            high += high_half(fourth(of_a)) + high_half(fourth(of_b));
         }
-        words[at + j] = sum;
-    }
-}
-
-/// Adds the low halves of the fourth powers of the samples that begin at `x` and at `y` in each row.
-#[tactic(auto, using(crate::proofs::AfterRows::after_none, crate::proofs::AfterRows::after_more))]
-pub fn add_low(
-    words: &mut [u64],
-    at: usize,
-    count: usize,
-    samples: &[u16],
-    x: usize,
-    y: usize,
-    stride: usize,
-)
-    requires words { at + count ≤ length words.old }
-    requires samples_a { stride * 7 + (x + count) ≤ length samples.now }
-    requires samples_b { stride * 7 + (y + count) ≤ length samples.now }
-    requires room { (k : ℕ) → k < count → slice_index words.old (at + k) < 2 ^ 63 }
-    ensures { Walked at count 8 words.old words.new (more_low samples.now stride x y) }
-{
-    for j in 0..count {
-        let mut sum = words[at + j];
-        for g in 0..GROUPS {
-            let a = fourth(samples[stride * g + (x + j)]);
-            let b = fourth(samples[stride * g + (y + j)]);
-            sum += low_half(a) + low_half(b);
-        }
-        words[at + j] = sum;
-    }
-}
-
-/// Adds the high halves of these fourth powers.
-#[tactic(auto, using(crate::proofs::AfterRows::after_none, crate::proofs::AfterRows::after_more))]
-pub fn add_high(
-    words: &mut [u64],
-    at: usize,
-    count: usize,
-    samples: &[u16],
-    x: usize,
-    y: usize,
-    stride: usize,
-)
-    requires words { at + count ≤ length words.old }
-    requires samples_a { stride * 7 + (x + count) ≤ length samples.now }
-    requires samples_b { stride * 7 + (y + count) ≤ length samples.now }
-    requires room { (k : ℕ) → k < count → slice_index words.old (at + k) < 2 ^ 63 }
-    ensures { Walked at count 8 words.old words.new (more_high samples.now stride x y) }
-{
-    for j in 0..count {
-        let mut sum = words[at + j];
-        for g in 0..GROUPS {
-            let a = fourth(samples[stride * g + (x + j)]);
-            let b = fourth(samples[stride * g + (y + j)]);
-            sum += high_half(a) + high_half(b);
-        }
-        words[at + j] = sum;
+        words[at + j] = cubes_a;
+        words[at + apart + j] = cubes_b;
+        words[at + 2 * apart + j] = low;
+        words[at + 3 * apart + j] = high;
     }
 }
 

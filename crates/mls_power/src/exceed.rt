@@ -19,7 +19,8 @@ pub struct Exceed {
 }
 
 impl Exceed {
-    ghost use Rattle.std.specs.Prelude.{◌≡◌, ℕ, ◌+◌, ◌<◌, ◌≤◌, ◌↔◌, Bool, List, [], ◌∷◌, ◌++◌, length, map, slice_index, IsSome, IfSome};
+    ghost use Rattle.std.specs.Prelude.{◌≡◌, ℕ, ◌+◌, ◌<◌, ◌≤◌, ◌↔◌, Bool, List, [], ◌∷◌, ◌++◌, length, map};
+    ghost use Rattle.std.specs.Prelude.{slice_index, IsSome, IfSome};
     ghost use Rattle.mls_model.specs.Samples.{unshifted};
     ghost use Rattle.mls_model.specs.Statistics.{above};
     ghost use Rattle.mls_power.specs.NumbersAbove.{HoldsAbove};
@@ -64,7 +65,8 @@ impl Exceed {
         requires range { AreNumbersAbove count numbers.now }
         ensures count { exceed_count_of result ≡ count }
         ensures numbers { (i : ℕ) → slice_index (numbers_of result) i ≡ slice_index numbers.now i }
-        ensures stands { (thresholds ws : List ℕ) → length thresholds ≡ length numbers.now → length ws ≡ count → HoldsAbove thresholds numbers.now ws → ExceedStandsFor thresholds result ws }
+        ensures stands { (thresholds ws : List ℕ) → length thresholds ≡ length numbers.now → length ws ≡ count →
+            HoldsAbove thresholds numbers.now ws → ExceedStandsFor thresholds result ws }
     {
         Exceed {
             count,
@@ -76,7 +78,8 @@ impl Exceed {
     pub fn add(&mut self, shape: &Shape, x: u16)
         requires { exceed_count_of self.old < 131070 }
         ensures count { exceed_count_of self.new ≡ exceed_count_of self.old + 1 }
-        ensures adds { (ws : List ℕ) → ExceedStandsFor shape.now.thresholds self.old ws → ExceedStandsFor shape.now.thresholds self.new (ws ++ x ∷ []) }
+        ensures adds { (ws : List ℕ) → ExceedStandsFor shape.now.thresholds self.old ws →
+            ExceedStandsFor shape.now.thresholds self.new (ws ++ x ∷ []) }
     {
         shape.valid();
         add_above(&mut self.numbers, shape, x);
@@ -87,7 +90,8 @@ impl Exceed {
     pub fn rules(&self)
         ensures few { exceed_count_of self.now ≤ 131070 }
         ensures numbers { AreNumbersAbove (exceed_count_of self.now) (numbers_of self.now) }
-        ensures stands { (thresholds ws : List ℕ) → ExceedStandsFor thresholds self.now ws → AreNumbersOf (length thresholds) (length ws) (numbers_of self.now) }
+        ensures stands { (thresholds ws : List ℕ) → ExceedStandsFor thresholds self.now ws →
+            AreNumbersOf (length thresholds) (length ws) (numbers_of self.now) }
     {
         let _few = self.count;
     }
@@ -102,7 +106,9 @@ impl Exceed {
     /// How many samples are greater than a threshold, and 0 behind the thresholds.
     pub fn above(&self, i: u32) -> u32
         ensures value { result ≡ slice_index (numbers_of self.now) i }
-        ensures above { (signed : Bool) (thresholds ws : List ℕ) → ExceedStandsFor thresholds self.now ws → i < length thresholds → result ≡ above (unshifted signed (slice_index thresholds i)) (map (unshifted signed) ws) }
+        ensures above { (signed : Bool) (thresholds ws : List ℕ) → ExceedStandsFor thresholds self.now ws →
+            i < length thresholds → result ≡
+            above (unshifted signed (slice_index thresholds i)) (map (unshifted signed) ws) }
     {
         self.numbers.get(i as usize).copied().unwrap_or(0)
     }

@@ -58,7 +58,8 @@ impl Extrema {
 
     /// Adds a sample.
     pub fn add(&mut self, x: u16)
-        ensures range { (n : ℕ) → AreExtrema n (least_of self.old) (greatest_of self.old) → AreExtrema (n + 1) (least_of self.new) (greatest_of self.new) }
+        ensures range { (n : ℕ) → AreExtrema n (least_of self.old) (greatest_of self.old) →
+            AreExtrema (n + 1) (least_of self.new) (greatest_of self.new) }
         ensures adds { (ws : List ℕ) → ExtremaStandFor self.old ws → ExtremaStandFor self.new (ws ++ x ∷ []) }
     {
         add_to_extrema(&mut self.ends, x);
@@ -66,7 +67,8 @@ impl Extrema {
 
     /// The rules on extrema hold of every value that stands for a list.
     pub fn rules(&self)
-        ensures { (ws : List ℕ) → ExtremaStandFor self.now ws → AreExtrema (length ws) (least_of self.now) (greatest_of self.now) }
+        ensures { (ws : List ℕ) → ExtremaStandFor self.now ws →
+            AreExtrema (length ws) (least_of self.now) (greatest_of self.now) }
     {
         let _ends = &self.ends;
     }
@@ -75,7 +77,8 @@ impl Extrema {
     pub fn least(&self) -> u16
         ensures value { result ≡ least_of self.now }
         ensures none { ExtremaStandFor self.now [] → result ≡ 65535 }
-        ensures least { (signed : Bool) (ws : List ℕ) → ExtremaStandFor self.now ws → 0 < length ws → least (map (unshifted signed) ws) ≡ Some (unshifted signed result) }
+        ensures least { (signed : Bool) (ws : List ℕ) → ExtremaStandFor self.now ws → 0 < length ws →
+            least (map (unshifted signed) ws) ≡ Some (unshifted signed result) }
     {
         self.ends[0]
     }
@@ -84,7 +87,8 @@ impl Extrema {
     pub fn greatest(&self) -> u16
         ensures value { result ≡ greatest_of self.now }
         ensures none { ExtremaStandFor self.now [] → result ≡ 0 }
-        ensures greatest { (signed : Bool) (ws : List ℕ) → ExtremaStandFor self.now ws → 0 < length ws → most (map (unshifted signed) ws) ≡ Some (unshifted signed result) }
+        ensures greatest { (signed : Bool) (ws : List ℕ) → ExtremaStandFor self.now ws → 0 < length ws →
+            most (map (unshifted signed) ws) ≡ Some (unshifted signed result) }
     {
         self.ends[1]
     }

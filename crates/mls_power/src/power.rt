@@ -29,13 +29,13 @@ const SHIFT: u64 = 32768;
 const SQUARE: u128 = 1073741824;
 
 impl Power {
-    ghost use Rattle.std.specs.Prelude.{◌≡◌, ℕ, ◌+◌, ◌*◌, ◌<◌, ◌≤◌, ◌↔◌, Bool, true, List, [], ◌∷◌, ◌++◌, length, map, pos, IsSome, IfSome};
+    ghost use Rattle.std.specs.Prelude.{◌≡◌, ℕ, ◌+◌, ◌*◌, ◌<◌, ◌≤◌, ◌↔◌, Bool, true, List, [], ◌∷◌, ◌++◌, length};
+    ghost use Rattle.std.specs.Prelude.{map, pos, IsSome, IfSome};
     ghost use Rattle.mls_model.specs.Samples.{unshifted};
     ghost use Rattle.mls_model.specs.Statistics.{variance_top, third_top};
-    ghost use Rattle.mls_power.specs.PowerSums.{HoldsSums, AreInRange};
     ghost use Rattle.mls_power.specs.Rules.{AreSums};
-    ghost use Rattle.mls_power.specs.Standing.{count_of, first_of, second_of, third_of, fourth_of, StandsFor, ArePowers, AreLowered, variance_top_in, third_top_in};
-    ghost use Rattle.mls_power.specs.PowerSums.{first_in, second_in, third_in, fourth_in};
+    ghost use Rattle.mls_power.specs.Standing.{count_of, first_of, second_of, third_of, fourth_of, StandsFor};
+    ghost use Rattle.mls_power.specs.Standing.{ArePowers, AreLowered, variance_top_in, third_top_in};
     ghost use Rattle.mls_model.specs.SumsText.{height};
 
     /// The sums of no samples.
@@ -46,22 +46,6 @@ impl Power {
             count: 0,
             sums: [0; POWER_WORDS],
         }
-    }
-
-    /// The sums that words hold, as `add_sample` keeps them, of this many samples.
-    pub fn unpacked(count: u32, words: &[u64]) -> Power
-        requires few { count ≤ 131070 }
-        requires size { length words.now ≡ 6 }
-        requires range { AreInRange count words.now }
-        ensures count { count_of result ≡ count }
-        ensures first { first_of result ≡ first_in words.now }
-        ensures second { second_of result ≡ second_in words.now }
-        ensures third { third_of result ≡ third_in words.now }
-        ensures fourth { fourth_of result ≡ fourth_in words.now }
-        ensures sums { (ws : List ℕ) → length ws ≡ count → HoldsSums words.now ws → StandsFor result ws }
-    {
-        let sums = [words[0], words[1], words[2], words[3], words[4], words[5]];
-        Power { count, sums }
     }
 
     /// So many samples with these sums of their first to fourth powers, which keep the rules on such sums.
@@ -207,7 +191,8 @@ impl Power {
     pub fn variance_top(&self) -> i128
         ensures formula { result ≡ variance_top_in self.now }
         ensures samples { (ws : List ℕ) → StandsFor self.now ws → result ≡ variance_top (map pos ws) }
-        ensures values { (signed : Bool) (ws : List ℕ) → StandsFor self.now ws → result ≡ variance_top (map (unshifted signed) ws) }
+        ensures values { (signed : Bool) (ws : List ℕ) → StandsFor self.now ws → result ≡
+            variance_top (map (unshifted signed) ws) }
     {
         let count = self.count as u128;
         let first = self.p1() as u128;
@@ -220,7 +205,8 @@ impl Power {
     pub fn third_top(&self) -> i128
         ensures formula { result ≡ third_top_in self.now }
         ensures samples { (ws : List ℕ) → StandsFor self.now ws → result ≡ third_top (map pos ws) }
-        ensures values { (signed : Bool) (ws : List ℕ) → StandsFor self.now ws → result ≡ third_top (map (unshifted signed) ws) }
+        ensures values { (signed : Bool) (ws : List ℕ) → StandsFor self.now ws → result ≡
+            third_top (map (unshifted signed) ws) }
     {
         let count = self.count as u128;
         let first = self.p1() as u128;

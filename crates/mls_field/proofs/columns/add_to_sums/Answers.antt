@@ -15,7 +15,7 @@ loop-from-init c = record {
 pub add_to_columns-requires-clause-room : goal.add_to_columns-requires-clause-room
 add_to_columns-requires-clause-room c = λ d i d_in from_in high.
     let below : i < c.args.places = omega (arith, high, c.min-count.ensures, c.loop-from.invariant.inside) in
-    subst (λ (x : ℕ). x ≤ most_before (column_at c.args.parameters d)) (sym (place_waits _ _ _ _ _ _ _ c.loop-from.invariant.inside c.loop-from.invariant.walk d i from_in below)) (c.requires.room d i d_in below)
+    subst (λ (x : ℕ). x ≤ most_before (column_at c.args.parameters d)) (sym (place_waits _ _ _ _ _ _ _ c.loop-from.invariant.inside c.loop-from.invariant.walk d i from_in below)) (c.requires.room d i d_in (omega arith) below)
 
 pub loop-from-preserved : goal.loop-from-preserved
 loop-from-preserved c =

@@ -38,7 +38,7 @@ add_to_sums-requires-clause-words g c =
     rw c.parameters-parameters.ensures.value (columns_fit (sums_size f.shape.parameters) f.places c.args.step (planes f.shape) _ c.requires.plane_in (ap length c.as_mut_slice-2.ensures.value ∙ f.kept.sums_in.long))
 
 pub add_to_sums-requires-clause-room : goal.add_to_sums-requires-clause-room
-add_to_sums-requires-clause-room g c = λ d i d_in here.
+add_to_sums-requires-clause-room g c = λ d i d_in _ here.
     let f = c.args.self.now in
     subst (λ (p : ℕ). get_or c.as_mut_slice-2.result.now ((c.args.step * (8 + 4 * p) + d) * f.places + i) 0 ≤ most_before (column_at p d)) (sym c.parameters-parameters.ensures.value)
     (subst (λ (xs : List ℕ). get_or xs ((c.args.step * (8 + 4 * f.shape.parameters) + d) * f.places + i) 0 ≤ most_before (column_at f.shape.parameters d)) (sym c.as_mut_slice-2.ensures.value)
