@@ -14,13 +14,9 @@ use Rattle.std.proofs.Math.Nat.{mul-le-mul, mul-le-mul_right}
 use Rattle.mls_model.specs.Studies.{AreSizes, planes}
 use Rattle.mls_assembly.specs.declared.group_step.GroupStep.{GroupStep}
 use Rattle.mls_assembly.specs.KeyShares.{KeyShares}
+use Rattle.mls_assembly.specs.EntryLists.{AllEntries}
 use Rattle.mls_assembly.specs.Held.{Held, key_cmp, key_at, step_at, IsPending, ArePending, AreRising}
 use Rattle.mls_assembly.proofs.MapKeys.{same_place}
-
--- all entries are so
-abbrev pub AllEntries : (GroupStep → KeyShares → Type 0) → List (GroupStep × KeyShares) → Type 0
-AllEntries Is [] = Unit {0}
-AllEntries Is (e ∷ es) = Is e.0 e.1 × AllEntries Is es
 
 pub all_entries : (P Q : GroupStep → KeyShares → Type 0) → ((k : GroupStep) (o : KeyShares) → P k o → Q k o) → (es : List (GroupStep × KeyShares)) → AllEntries P es → AllEntries Q es
 all_entries P Q implies [] each = tt

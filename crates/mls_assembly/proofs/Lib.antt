@@ -9,3 +9,4 @@ pub mod Offering
 pub mod Lending
 pub mod PuttingKeys
 pub mod EntryKeys
+pub mod TakingKeys

@@ -5,3 +5,4 @@ pub mod Held
 pub mod Offered
 pub mod Lent
 pub mod Saved
+pub mod EntryLists

@@ -60,6 +60,17 @@ impl KeptPiece {
         })
     }
 
+    /// A piece of the cells from `first` on, with these samples.
+    pub(crate) fn from_samples(first: u32, count: u32, samples: Vec<u16>) -> KeptPiece
+        ensures { result ≡ record { first = first; count = count; samples = samples.items } }
+    {
+        KeptPiece {
+            first,
+            count,
+            samples,
+        }
+    }
+
     /// The sample of a row and a cell of the mesh.
     #[inline]
     pub(crate) fn at(&self, row: u32, cell: u32) -> u16

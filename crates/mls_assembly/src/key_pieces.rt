@@ -2,14 +2,20 @@
 
 ghost use Rattle.std.specs.Prelude.{◌≡◌, ◌==◌, ℕ, ◌<◌, ◌≤◌, [], ◌++◌, length, set, cond, is_some, IfOk, OnOk, Some, None};
 ghost use Rattle.std.specs.Option.{option_map};
-ghost use Rattle.mls_ckpt.specs.Reading.{texts};
+ghost use Rattle.mls_ckpt.specs.Checkpoints.{share_at};
+ghost use Rattle.mls_ckpt.specs.Places.{cursor_of};
+ghost use Rattle.mls_ckpt.specs.Reading.{many, texts};
+ghost use Rattle.mls_ckpt.specs.Recovering.{Gives};
+ghost use Rattle.mls_ckpt.specs.States.{client_after};
 ghost use Rattle.mls_ckpt.specs.Spellings.{share_text};
-ghost use Rattle.mls_assembly.specs.KeyShares.{share_in};
+ghost use Rattle.mls_assembly.specs.KeyShares.{share_in, AreShares};
 ghost use Rattle.mls_assembly.specs.Saved.{slot_shares, shares_from};
 
 use crate::kept_piece::KeptPiece;
+use crate::recovering::take_share;
 use mls_base::faults::NoMemory;
-use mls_ckpt::Put;
+use mls_base::shape::Shape;
+use mls_ckpt::{Put, RecoverFault, Take};
 use std::alloc::Global;
 use std::marker::Model;
 
@@ -50,6 +56,43 @@ impl KeyPieces {
         Ok(KeyPieces { life, pieces })
     }
 
+    /// A life with no pieces yet of so many clients.
+    fn none(alloc: Global, clients: u32, life: u32) -> Result<KeyPieces, NoMemory>
+        ensures life { IfOk result (λ o. o.life ≡ life) }
+        ensures slots { IfOk result (λ o. length o.shares ≡ clients) }
+        ensures none { IfOk result (λ o. (c : ℕ) → share_in o c ≡ None) }
+    {
+        let mut pieces = Vec::with_capacity(alloc, clients as usize)?;
+        for _client in 0..clients {
+            pieces.push(None)?;
+        }
+        Ok(KeyPieces { life, pieces })
+    }
+
+    /// So many pieces of a life, by rising client. A fault may leave the place where it is.
+    pub(crate) fn take(
+        alloc: Global,
+        shape: &Shape,
+        rank: u32,
+        life: u32,
+        count: u16,
+        from: &mut Take<'_>,
+    ) -> Result<KeyPieces, RecoverFault>
+        requires { rank < shape.now.ranks }
+        ensures read { Gives (λ o. shares_from 0 o.shares) (cursor_of from.new) result (many (share_at shape.now rank) client_after count 0 (cursor_of from.old)) }
+        ensures life { IfOk result (λ o. o.life ≡ life) }
+        ensures shares { IfOk result (λ o. AreShares shape.now rank o) }
+    {
+        let mut taken = KeyPieces::none(alloc, shape.clients(), life)?;
+        let mut least = 0;
+        for _piece in 0..count {
+            let (client, piece) = take_share(alloc, shape, rank, least, from)?;
+            taken.put(client, piece);
+            least = client + 1;
+        }
+        Ok(taken)
+    }
+
     /// The life.
     pub(crate) fn life(&self) -> u32
         ensures { result ≡ self.now.life }
@@ -63,6 +106,7 @@ impl KeyPieces {
         ensures life { self.new.life ≡ self.old.life }
         ensures slots { length self.new.shares ≡ length self.old.shares }
         ensures shares { (c : ℕ) → share_in self.new c ≡ cond (c == client) (Some piece) (share_in self.old c) }
+        ensures list { self.new.shares ≡ set self.old.shares client (Some piece) }
     {
         self.pieces[client as usize] = Some(piece);
     }

@@ -7,6 +7,7 @@ mod kept_piece;
 mod key_pieces;
 pub mod pending;
 pub mod pending_rows;
+mod recovering;
 mod saving;
 
 pub use assembled::Assembled;

@@ -15,19 +15,29 @@ ghost use Rattle.mls_assembly.specs.Held.{Held, key_at, kept_of, life_of, share_
 ghost use Rattle.mls_assembly.specs.Offered.{IsPartial, Covers, IsOffered, Stores, StoresKept, StoresComplete, Unchanged};
 ghost use Rattle.mls_assembly.specs.Lent.{sizes_of, rank_of, shares_of};
 ghost use Rattle.mls_ckpt.specs.Spellings.{pending_text};
-ghost use Rattle.mls_assembly.specs.Saved.{keys_saved};
+ghost use Rattle.mls_assembly.specs.Saved.{keys_saved, TakesKey};
+ghost use Rattle.mls_assembly.specs.EntryLists.{AreBefore};
+ghost use Rattle.mls_assembly.specs.Held.{IsPending, key_cmp};
+ghost use Rattle.std.specs.BTreeMap.{insert_entry};
+ghost use Rattle.mls_ckpt.specs.Checkpoints.{pending_at};
+ghost use Rattle.mls_ckpt.specs.Checkpoints as checkpoints;
+ghost use Rattle.mls_ckpt.specs.Places.{cursor_of};
+ghost use Rattle.mls_ckpt.specs.Recovering.{Gives, Recovers};
+ghost use Rattle.mls_ledger.specs.MarkRows.{rows_of};
 
 use crate::assembled::Assembled;
 use crate::group_step::GroupStep;
 use crate::kept_piece::KeptPiece;
 use crate::key_pieces::KeyPieces;
 use crate::pending_rows::PendingRows;
+use crate::recovering::{take_key, u32_of};
 use crate::saving::put_key;
 use mls_base::faults::NoMemory;
 use mls_base::rows::Rows;
 use mls_base::shape::Shape;
-use mls_ckpt::Put;
+use mls_ckpt::{Put, RecoverFault, Take};
 use mls_frame::PieceView;
+use mls_ledger::Marks;
 use std::alloc::Global;
 use std::collections::BTreeMap;
 use std::marker::Model;
@@ -70,6 +80,7 @@ impl Pending {
         ensures sizes { result.sizes ≡ shape.now }
         ensures rank { result.rank ≡ rank }
         ensures empty { (key : Key) → kept_of result key ≡ None }
+        ensures none { result.entries ≡ [] }
     {
         Pending {
             alloc,
@@ -309,5 +320,71 @@ impl Pending {
             put_key(key, pieces, out)?;
         }
         Ok(())
+    }
+
+    // Puts a key with its pieces behind all others.
+    fn add(&mut self, key: GroupStep, pieces: KeyPieces) -> Result<(), NoMemory>
+        requires fits { IsPending self.old.sizes self.old.rank (key_at key) pieces }
+        ensures sizes { self.new.sizes ≡ self.old.sizes }
+        ensures rank { self.new.rank ≡ self.old.rank }
+        ensures added { IfOk result (λ _. self.new.entries ≡ insert_entry key_cmp self.old.entries key pieces) }
+    {
+        self.keys.insert(key, pieces)?;
+        Ok(())
+    }
+
+    // Takes the next key, from the least on, and gives the least that may come behind it.
+    fn take_next(&mut self, marks: &Marks, least: GroupStep, from: &mut Take<'_>) -> Result<GroupStep, RecoverFault>
+        requires { AreBefore (key_at least) self.old.entries }
+        ensures sizes { self.new.sizes ≡ self.old.sizes }
+        ensures rank { self.new.rank ≡ self.old.rank }
+        ensures before { IfOk result (λ next. AreBefore (key_at next) self.new.entries) }
+        ensures read { TakesKey self.old self.new (key_at least) (cursor_of from.new) result
+            (checkpoints.key_at self.old.sizes self.old.rank (rows_of marks.now) (key_at least) (cursor_of from.old)) }
+    {
+        let (key, pieces) = take_key(self.alloc, &self.shape, self.rank, marks, least, from)?;
+        self.add(key, pieces)?;
+        Ok(GroupStep {
+            step: key.step,
+            group: key.group + 1,
+        })
+    }
+
+    // Takes all keys, where there are none yet.
+    #[tactic(auto, unfolding(mls_ckpt::specs::Checkpoints::pending_at))]
+    fn take_keys(&mut self, marks: &Marks, from: &mut Take<'_>) -> Result<(), RecoverFault>
+        requires { self.old.entries ≡ [] }
+        ensures sizes { self.new.sizes ≡ self.old.sizes }
+        ensures rank { self.new.rank ≡ self.old.rank }
+        ensures read { Gives (λ _. keys_saved self.new) (cursor_of from.new) result
+            (pending_at self.old.sizes self.old.rank (rows_of marks.now) (cursor_of from.old)) }
+    {
+        let count = u32_of(from, u32::MAX)?;
+        let mut least = GroupStep { step: 0, group: 0 };
+        for _key in 0..count {
+            least = self.take_next(marks, least, from)?;
+        }
+        Ok(())
+    }
+
+    /// Takes the pending pieces of a rank from bytes, where these keys are marked. `Bad` tells the first place that is wrong. A fault leaves the place unchanged. Room is taken as keys and samples come, so that a number of them which the bytes can't hold takes none.
+    pub fn take(
+        alloc: Global,
+        shape: &Shape,
+        rank: u32,
+        marks: &Marks,
+        from: &mut Take<'_>,
+    ) -> Result<Pending, RecoverFault>
+        requires { rank < shape.now.ranks }
+        ensures exact { Recovers keys_saved (cursor_of from.old) (cursor_of from.new) result
+            (pending_at shape.now rank (rows_of marks.now) (cursor_of from.old)) }
+        ensures sizes { IfOk result (λ pending. pending.sizes ≡ shape.now) }
+        ensures rank { IfOk result (λ pending. pending.rank ≡ rank) }
+    {
+        let mut next = *from;
+        let mut pending = Pending::new(alloc, shape, rank);
+        pending.take_keys(marks, &mut next)?;
+        *from = next;
+        Ok(pending)
     }
 }

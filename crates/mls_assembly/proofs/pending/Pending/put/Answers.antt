@@ -3,7 +3,8 @@ use Rattle.std.specs.Map.Iter.{deref_pair}
 use Rattle.std.proofs.lemmas.Map.Iter.{rest_more}
 use Rattle.mls_assembly.specs.Held.{Held}
 use Rattle.mls_assembly.proofs.PuttingKeys.{keys_begin, keys_more}
-use Rattle.mls_assembly.proofs.EntryKeys.{AllEntries, slots_few, few_saved}
+use Rattle.mls_assembly.specs.EntryLists.{AllEntries}
+use Rattle.mls_assembly.proofs.EntryKeys.{slots_few, few_saved}
 use Rattle.mls_assembly.proofs.pending.Pending.put.Goals as goal
 
 pub overflow_cast-keys : goal.overflow_cast-keys

@@ -2,7 +2,7 @@ use Rattle.std.proofs.Common.{◌≡◌, ◌++◌, ◌≤◌, [], length, map}
 use Rattle.mls_ckpt.specs.Reading.{texts}
 use Rattle.mls_ckpt.specs.Spellings.{key_text, pending_text}
 use Rattle.mls_assembly.specs.Saved.{key_saved, keys_saved}
-use Rattle.mls_assembly.proofs.EntryKeys.{AllEntries}
+use Rattle.mls_assembly.specs.EntryLists.{AllEntries}
 use Rattle.mls_assembly.proofs.pending.Pending.put.Given as goal
 
 abbrev pub invariant-loop-key : goal.invariant-loop-key
