@@ -93,7 +93,10 @@ pub(crate) fn take_share(
     }
     let count = overlap.end - overlap.first;
     let samples = samples_of(alloc, (shape.parameters() + 2) * count, from)?;
-    Ok((client, KeptPiece::from_samples(overlap.first, count, samples)))
+    Ok((
+        client,
+        KeptPiece::from_samples(overlap.first, count, samples),
+    ))
 }
 
 // 1 where a client overlaps the block, else 0.
