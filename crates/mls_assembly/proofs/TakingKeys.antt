@@ -1,5 +1,5 @@
 -- The loops that take pending keys, with their pieces and samples.
-use Rattle.std.proofs.Common.{◌≡◌, ℕ, zero, suc, ◌+◌, ◌-◌, ◌*◌, ◌<◌, ◌≤◌, true, false, Bool, cond, List, [], ◌∷◌, ◌++◌, length, map, get_or, set, Option, Some, None, ◌⊎◌, inl, inr, Result, Ok, Err, refl, ap, sym, ◌∙◌, subst, ⊎_elim, arith, append_assoc, length-append}
+use Rattle.std.proofs.Common.{◌≡◌, ℕ, zero, suc, ◌+◌, ◌-◌, ◌*◌, ◌<◌, ◌≤◌, true, false, Bool, List, [], ◌∷◌, ◌++◌, length, map, get_or, set, Option, Some, None, ◌⊎◌, inl, inr, Result, Ok, Err, refl, ap, sym, ◌∙◌, subst, ⊎_elim, arith, append_assoc}
 use Rattle.std.specs.Int.{w16, w32}
 use Rattle.std.proofs.lemmas.List.{map-append}
 use Rattle.std.specs.Result.{IsErrAnd}
@@ -8,7 +8,7 @@ use Rattle.std.proofs.Common.{◌≢◌, get_or-set_same, get_or-set_other}
 use Rattle.std.proofs.lemmas.Bool.{cases_eq, lt-ltb, ltb-true, eqb-true, and_parts}
 use Rattle.std.specs.Prelude.{not, ◌==◌, ◌&&◌, ◌||◌, nat_lt, nat_le, IsSome}
 use Rattle.std.specs.Ordering.{nat_cmp, ordering_then, match_ordering}
-use Rattle.std.specs.declared.cmp.Ordering.TheVariants.{Less, Equal, Greater}
+use Rattle.std.specs.declared.cmp.Ordering.TheVariants.{Equal, Greater}
 use Rattle.std.specs.Cmp.{nat_cmp_is}
 use Rattle.std.specs.BTreeMap.{insert_entry}
 use Rattle.std.proofs.Math.Nat.{mul-le-mul}
@@ -102,7 +102,7 @@ piece_goes_on s rank count place least o new taken old from whole within list re
     ap (shares_from 0) list ∙ set_share o.shares 0 least taken.0 taken.1 valid.rises client_in so_far.none ∙ ap (λ n. shares_from 0 o.shares ++ share_saved n taken.1 ∷ []) (let same : 0 + taken.0 ≡ taken.0 = omega arith in same) in
     record {
       read = ap (λ l. behind_these l (many (share_at s rank) client_after (count - (place + 1)) (taken.0 + 1) from)) grown
-        ∙ loop_goes_on (share_at s rank) client_after (shares_from 0 o.shares) (count - place) (count - (place + 1)) least old from (share_taken taken) whole (omega arith) read so_far.read;
+          ∙ loop_goes_on (share_at s rank) client_after (shares_from 0 o.shares) (count - place) (count - (place + 1)) least old from (share_taken taken) whole (omega arith) read so_far.read;
       slots = ap length list ∙ length-set o.shares taken.0 (Some taken.1) ∙ so_far.slots;
       none = λ i above. ap (λ l. get_or l i None) list ∙ other i (λ same. absurd (omega arith)) ∙ so_far.none i (let rises = valid.rises in omega arith);
       shares = λ client share is. ⊎_elim
@@ -143,12 +143,12 @@ share_valid s rank least client clients parameters span samples share old new c 
       rises = rises;
       client = omega arith;
       share = subst (λ x. IsShare s rank client x) (sym made)
-        (record {
-          some = of_lt 0 (width (overlap s rank client)) (omega arith);
-          first = ap (λ (x : Span). x.first) is;
-          count = sym own;
-          size = size ∙ ap (λ n. (n + 2) * (span.end - span.first)) p;
-        });
+          (record {
+            some = of_lt 0 (width (overlap s rank client)) (omega arith);
+            first = ap (λ (x : Span). x.first) is;
+            count = sym own;
+            size = size ∙ ap (λ n. (n + 2) * (span.end - span.first)) p;
+          });
     }
   where
     of_lt : (a b : ℕ) → a < b → nat_lt a b ≡ true
@@ -296,7 +296,7 @@ taken_none first marks count from after none read = record {
   rank = refl;
   before = subst (AreBefore first_key) (sym none) tt;
   read = ap (λ l. behind_these (map key_saved l) (many (checkpoints.key_at first.sizes first.rank marks) key_after (count - 0) first_key after)) none
-    ∙ behind_none (many (checkpoints.key_at first.sizes first.rank marks) key_after (count - 0) first_key after)
-    ∙ ap (λ n. many (checkpoints.key_at first.sizes first.rank marks) key_after n first_key after) (let same : count - 0 ≡ count = omega arith in same)
-    ∙ sym (ap (λ r. r >>= (λ (read : ℕ × Cursor). many (checkpoints.key_at first.sizes first.rank marks) key_after read.0 first_key read.1)) read);
+      ∙ behind_none (many (checkpoints.key_at first.sizes first.rank marks) key_after (count - 0) first_key after)
+      ∙ ap (λ n. many (checkpoints.key_at first.sizes first.rank marks) key_after n first_key after) (let same : count - 0 ≡ count = omega arith in same)
+      ∙ sym (ap (λ r. r >>= (λ (read : ℕ × Cursor). many (checkpoints.key_at first.sizes first.rank marks) key_after read.0 first_key read.1)) read);
 }

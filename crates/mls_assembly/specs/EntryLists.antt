@@ -1,5 +1,5 @@
 -- What holds of all entries.
-use Rattle.std.specs.Prelude.{◌≡◌, ℕ, ◌<◌, List, [], ◌∷◌, ◌⊎◌}
+use Rattle.std.specs.Prelude.{◌≡◌, ◌<◌, List, [], ◌∷◌, ◌⊎◌}
 use Rattle.mls_model.specs.Completion.{Key}
 use Rattle.mls_assembly.specs.declared.group_step.GroupStep.{GroupStep}
 use Rattle.mls_assembly.specs.KeyShares.{KeyShares}

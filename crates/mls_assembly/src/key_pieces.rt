@@ -79,7 +79,8 @@ impl KeyPieces {
         from: &mut Take<'_>,
     ) -> Result<KeyPieces, RecoverFault>
         requires { rank < shape.now.ranks }
-        ensures read { Gives (λ o. shares_from 0 o.shares) (cursor_of from.new) result (many (share_at shape.now rank) client_after count 0 (cursor_of from.old)) }
+        ensures read { Gives (λ o. shares_from 0 o.shares) (cursor_of from.new) result
+            (many (share_at shape.now rank) client_after count 0 (cursor_of from.old)) }
         ensures life { IfOk result (λ o. o.life ≡ life) }
         ensures shares { IfOk result (λ o. AreShares shape.now rank o) }
     {

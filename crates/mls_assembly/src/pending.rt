@@ -334,7 +334,12 @@ impl Pending {
     }
 
     // Takes the next key, from the least on, and gives the least that may come behind it.
-    fn take_next(&mut self, marks: &Marks, least: GroupStep, from: &mut Take<'_>) -> Result<GroupStep, RecoverFault>
+    fn take_next(
+        &mut self,
+        marks: &Marks,
+        least: GroupStep,
+        from: &mut Take<'_>,
+    ) -> Result<GroupStep, RecoverFault>
         requires { AreBefore (key_at least) self.old.entries }
         ensures sizes { self.new.sizes ≡ self.old.sizes }
         ensures rank { self.new.rank ≡ self.old.rank }

@@ -27,7 +27,8 @@ use std::alloc::Global;
 
 /// The next number of 2 bytes, which is at most `most`.
 pub(crate) fn u16_of(from: &mut Take<'_>, most: u16) -> Result<u16, RecoverFault>
-    ensures exact { RecoversNumber (cursor_of from.old) (cursor_of from.new) result (number_at w16 most (cursor_of from.old)) }
+    ensures exact { RecoversNumber (cursor_of from.old) (cursor_of from.new) result
+        (number_at w16 most (cursor_of from.old)) }
     ensures few { IfOk result (λ n. n ≤ most) }
 {
     Ok(from.u16(most)?)
@@ -35,7 +36,8 @@ pub(crate) fn u16_of(from: &mut Take<'_>, most: u16) -> Result<u16, RecoverFault
 
 /// The next number of 4 bytes, which is at most `most`.
 pub(crate) fn u32_of(from: &mut Take<'_>, most: u32) -> Result<u32, RecoverFault>
-    ensures exact { RecoversNumber (cursor_of from.old) (cursor_of from.new) result (number_at w32 most (cursor_of from.old)) }
+    ensures exact { RecoversNumber (cursor_of from.old) (cursor_of from.new) result
+        (number_at w32 most (cursor_of from.old)) }
     ensures few { IfOk result (λ n. n ≤ most) }
 {
     Ok(from.u32(most)?)
@@ -61,7 +63,8 @@ fn push(samples: &mut Vec<u16>, sample: u16) -> Result<(), NoMemory>
 
 // So many samples. Room is taken as they come, so that a number which the bytes can't hold takes none.
 fn samples_of(alloc: Global, count: u32, from: &mut Take<'_>) -> Result<Vec<u16>, RecoverFault>
-    ensures { Gives (λ samples. samples.items) (cursor_of from.new) result (many (λ i from. number_at w16 65535 from) after_one count 0 (cursor_of from.old)) }
+    ensures { Gives (λ samples. samples.items) (cursor_of from.new) result
+        (many (λ i from. number_at w16 65535 from) after_one count 0 (cursor_of from.old)) }
 {
     let mut samples = Vec::new(alloc);
     for _place in 0..count {
@@ -93,7 +96,10 @@ pub(crate) fn take_share(
     }
     let count = overlap.end - overlap.first;
     let samples = samples_of(alloc, (shape.parameters() + 2) * count, from)?;
-    Ok((client, KeptPiece::from_samples(overlap.first, count, samples)))
+    Ok((
+        client,
+        KeptPiece::from_samples(overlap.first, count, samples),
+    ))
 }
 
 // 1 where a client overlaps the block, else 0.

@@ -144,7 +144,8 @@ impl Marks {
 
     /// Takes the marks of a study from bytes. `Bad` tells the first place that is wrong. A fault leaves the place unchanged.
     pub fn take(alloc: Global, shape: &Shape, from: &mut Take<'_>) -> Result<Marks, RecoverFault>
-        ensures exact { Recovers rows_of (cursor_of from.old) (cursor_of from.new) result (marks_at shape.now (cursor_of from.old)) }
+        ensures exact { Recovers rows_of (cursor_of from.old) (cursor_of from.new) result
+            (marks_at shape.now (cursor_of from.old)) }
         ensures groups { IfOk result (λ marks. marks.groups ≡ shape.now.groups) }
         ensures planes { IfOk result (λ marks. marks.planes ≡ planes shape.now) }
     {

@@ -53,7 +53,8 @@ fn push(bytes: &mut Vec<u8>, byte: u8) -> Result<(), NoMemory>
 // Takes a plane's bytes behind those of the planes before it.
 #[tactic(auto, unfolding(mls_ckpt::specs::Checkpoints::marks_row_at))]
 fn take_row(shape: &Shape, from: &mut Take<'_>, bytes: &mut Vec<u8>) -> Result<(), RecoverFault>
-    ensures { Continues bytes.old.items bytes.new.items (cursor_of from.new) result (marks_row_at shape.now (cursor_of from.old)) }
+    ensures { Continues bytes.old.items bytes.new.items (cursor_of from.new) result
+        (marks_row_at shape.now (cursor_of from.old)) }
 {
     shape.valid();
     let groups = shape.groups();
@@ -72,7 +73,8 @@ pub(crate) fn take_rows(
     shape: &Shape,
     from: &mut Take<'_>,
 ) -> Result<Vec<u8>, RecoverFault>
-    ensures read { Gives (λ bytes. rows_in (row_len shape.now.groups) (planes shape.now) bytes.items) (cursor_of from.new) result (marks_at shape.now (cursor_of from.old)) }
+    ensures read { Gives (λ bytes. rows_in (row_len shape.now.groups) (planes shape.now) bytes.items)
+        (cursor_of from.new) result (marks_at shape.now (cursor_of from.old)) }
     ensures size { IfOk result (λ bytes. length bytes.items ≡ planes shape.now * row_len shape.now.groups) }
 {
     shape.valid();

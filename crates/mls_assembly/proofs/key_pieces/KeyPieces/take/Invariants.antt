@@ -1,11 +1,8 @@
-use Rattle.std.proofs.Common.{◌≡◌, ℕ, ◌-◌, ◌≤◌, get_or, length, None}
+use Rattle.std.proofs.Common.{◌≡◌, ◌-◌}
 use Rattle.mls_ckpt.specs.Checkpoints.{share_at}
 use Rattle.mls_ckpt.specs.Places.{cursor_of}
 use Rattle.mls_ckpt.specs.Reading.{many}
-use Rattle.mls_ckpt.specs.Recovering.{behind_these}
 use Rattle.mls_ckpt.specs.States.{client_after}
-use Rattle.mls_assembly.specs.KeyShares.{AreShares}
-use Rattle.mls_assembly.specs.Saved.{shares_from}
 use Rattle.mls_assembly.proofs.TakingKeys.{IsTaken}
 use Rattle.mls_assembly.proofs.key_pieces.KeyPieces.take.Given as goal
 

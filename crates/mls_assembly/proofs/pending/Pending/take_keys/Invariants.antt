@@ -1,14 +1,8 @@
-use Rattle.std.proofs.Common.{◌≡◌, ◌-◌}
-use Rattle.mls_ckpt.specs.Checkpoints as checkpoints
+use Rattle.std.proofs.Common.{◌-◌}
 use Rattle.mls_ckpt.specs.Checkpoints.{pending_at}
 use Rattle.mls_ckpt.specs.Places.{cursor_of}
-use Rattle.mls_ckpt.specs.Reading.{many}
-use Rattle.mls_ckpt.specs.Recovering.{behind_these}
-use Rattle.mls_ckpt.specs.States.{key_after}
 use Rattle.mls_ledger.specs.MarkRows.{rows_of}
 use Rattle.mls_assembly.specs.Held.{key_at}
-use Rattle.mls_assembly.specs.EntryLists.{AreBefore}
-use Rattle.mls_assembly.specs.Saved.{keys_saved}
 use Rattle.mls_assembly.proofs.TakingKeys.{AreTaken}
 use Rattle.mls_assembly.proofs.pending.Pending.take_keys.Given as goal
 
