@@ -9,3 +9,9 @@ pub mod OutputSteps
 pub mod OneCell
 pub mod Kept
 pub mod Stands
+pub mod PlaneCounts
+pub mod PackedCells
+pub mod Spelled
+pub mod Answered
+pub mod Taken
+pub mod StoredCells

@@ -7,5 +7,8 @@ mod ends;
 pub mod field;
 pub mod fold;
 mod gathered;
+mod put;
+mod stored;
+mod taken;
 #[cfg(test)]
 mod tests;
