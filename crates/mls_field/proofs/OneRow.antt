@@ -126,11 +126,15 @@ pub record StepsEnds (old new row : List ℕ) : Type 0 where
   pub least : slice_index new 0 ≡ min (min (slice_index old 0) (sample 0 row)) (sample 1 row)
   pub greatest : slice_index new 1 ≡ max (max (slice_index old 1) (sample 0 row)) (sample 1 row)
 
-pub ends_within : (n : ℕ) (old new row : List ℕ) → StepsEnds old new row → ExtremaWithin n old → ExtremaWithin (n + 1) new
-ends_within n old new row steps h = record {
-  none_least = λ e. absurd (omega arith);
-  none_greatest = λ e. absurd (omega arith);
-  some = λ _. omega (arith, steps.least, steps.greatest);
+pub ends_within : (n : ℕ) (old new row : List ℕ) → StepsEnds old new row → ((j : ℕ) → sample j row ≤ 65535) → ExtremaWithin n old → ExtremaWithin (n + 1) new
+ends_within n old new row steps small h = record {
+  rules = record {
+    none_least = λ e. absurd (omega arith);
+    none_greatest = λ e. absurd (omega arith);
+    some = λ _. omega (arith, steps.least, steps.greatest);
+  };
+  least_small = omega (arith, steps.least, small 0, small 1, h.least_small);
+  greatest_small = omega (arith, steps.greatest, small 0, small 1, h.greatest_small);
 }
 
 pub ends_hold : (old new row : List ℕ) → StepsEnds old new row → ((j : ℕ) → sample j row ≤ 65535) → (rows : List (List ℕ)) → HoldExtrema old rows → HoldExtrema new (rows ++ row ∷ [])

@@ -24,7 +24,7 @@ ends_steps cell row long = record { least = entry-with_row ends_step row cell 0 
 
 pub ends_kind : (n : ℕ) → IsKind ExtremaWithin HoldExtrema ends_step 2 n
 ends_kind n = record {
-  more = λ m cell row long is h. ends_within m cell _ row (ends_steps cell row long) h;
+  more = λ m cell row long is h. ends_within m cell _ row (ends_steps cell row long) is.small h;
   adds = λ cell row long is rows h. ends_hold cell _ row (ends_steps cell row long) is.small rows h;
 }
 

@@ -61,7 +61,7 @@ sums_front p n xs ys same h =
     }
 
 -- the numbers of a cell with the rows that wait may be those of all rows that were given
-within_whole : (within : ℕ → List ℕ → Type 0) (holds : List ℕ → List (List ℕ) → Type 0) (step : ℕ → List ℕ → ℕ → ℕ) (size q count w : ℕ) → IsKind within holds step size q → (counts waiting numbers samples : List ℕ) → IsPart within size count w (added_of counts waiting) numbers → ((plane : ℕ) → get_or waiting plane 0 ≤ get_or counts plane 0) → ((i : ℕ) → get_or samples i 0 ≤ 65535) → (plane place : ℕ) → plane < count → place < w → within (get_or counts plane 0) (whole_cell step size w numbers q samples (get_or waiting plane 0) plane place)
+pub within_whole : (within : ℕ → List ℕ → Type 0) (holds : List ℕ → List (List ℕ) → Type 0) (step : ℕ → List ℕ → ℕ → ℕ) (size q count w : ℕ) → IsKind within holds step size q → (counts waiting numbers samples : List ℕ) → IsPart within size count w (added_of counts waiting) numbers → ((plane : ℕ) → get_or waiting plane 0 ≤ get_or counts plane 0) → ((i : ℕ) → get_or samples i 0 ≤ 65535) → (plane place : ℕ) → plane < count → place < w → within (get_or counts plane 0) (whole_cell step size w numbers q samples (get_or waiting plane 0) plane place)
 within_whole within holds step size q count w kind counts waiting numbers samples part given small plane place p_in place_in =
     let g = get_or waiting plane 0 in
     let all : added_of counts waiting plane + g ≡ get_or counts plane 0 = omega (arith, given plane) in
@@ -119,3 +119,10 @@ pub front_taken : (size : ℕ) (xs ys : List ℕ) → size ≤ length xs → len
 front_taken size xs ys fits long same =
     let taken = length-take-le size xs fits in
     same_number_lists (take size xs) ys (taken ∙ sym long) (λ i h. let low : i < size = omega (arith, h, taken) in get_or-take size xs i 0 low ∙ same.each i low)
+
+-- the same front of two lists, taken
+pub front_part : (size : ℕ) (xs ys : List ℕ) → size ≤ length xs → size ≤ length ys → ((i : ℕ) → i < size → slice_index xs i ≡ slice_index ys i) → take size xs ≡ take size ys
+front_part size xs ys fits fits' each =
+    let taken = length-take-le size xs fits in
+    let taken' = length-take-le size ys fits' in
+    same_number_lists (take size xs) (take size ys) (taken ∙ sym taken') (λ i h. let low : i < size = omega (arith, h, taken) in get_or-take size xs i 0 low ∙ (each i low ∙ sym (get_or-take size ys i 0 low)))

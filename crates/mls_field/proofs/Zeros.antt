@@ -95,7 +95,11 @@ greatest_at planes w ends is plane place p_in here = entry-cell 2 w ends plane p
 ends_part : (planes w : ℕ) (added : ℕ → ℕ) (ends : List ℕ) → ((plane : ℕ) → added plane ≡ 0) → AreNoEnds planes w ends → IsPart ExtremaWithin 2 planes w added ends
 ends_part planes w added ends none is = record {
   long = is.long;
-  range = λ plane place p_in here. subst (λ (n : ℕ). ExtremaWithin n (cell_of 2 w ends plane place)) (sym (none plane)) (record { none_least = λ _. least_at planes w ends is plane place p_in here; none_greatest = λ _. greatest_at planes w ends is plane place p_in here; some = λ h. absurd (omega (arith, h)) });
+  range = λ plane place p_in here. subst (λ (n : ℕ). ExtremaWithin n (cell_of 2 w ends plane place)) (sym (none plane)) (record {
+    rules = record { none_least = λ _. least_at planes w ends is plane place p_in here; none_greatest = λ _. greatest_at planes w ends is plane place p_in here; some = λ h. absurd (omega (arith, h)) };
+    least_small = omega (arith, least_at planes w ends is plane place p_in here);
+    greatest_small = omega (arith, greatest_at planes w ends is plane place p_in here);
+  });
 }
 
 ends_hold : (planes w : ℕ) (ends : List ℕ) → AreNoEnds planes w ends → (plane place : ℕ) → plane < planes → place < w → HoldExtrema (cell_of 2 w ends plane place) []

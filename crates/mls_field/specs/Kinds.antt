@@ -40,8 +40,10 @@ pub record HoldSums (p : ℕ) (words : List ℕ) (rows : List (List ℕ)) : Type
   pub fourth : fourth_of p words ≡ sum_by (λ w. w * w * (w * w)) (shifted_outputs rows)
 
 -- the least and greatest of the samples A and B
-abbrev pub ExtremaWithin : ℕ → List ℕ → Type 0
-ExtremaWithin n ends = AreExtrema (2 * n) (least_in ends) (greatest_in ends)
+pub record ExtremaWithin (n : ℕ) (ends : List ℕ) : Type 0 where
+  pub rules : AreExtrema (2 * n) (least_in ends) (greatest_in ends)
+  pub least_small : least_in ends ≤ 65535
+  pub greatest_small : greatest_in ends ≤ 65535
 
 abbrev pub HoldExtrema : List ℕ → List (List ℕ) → Type 0
 HoldExtrema ends rows = HoldsExtrema ends (shifted_outputs rows)

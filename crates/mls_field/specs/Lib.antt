@@ -11,3 +11,9 @@ pub mod Kept
 pub mod Stands
 pub mod EightRows
 pub mod FieldSteps
+pub mod PlaneCounts
+pub mod PackedCells
+pub mod Spelled
+pub mod Answered
+pub mod Taken
+pub mod StoredCells

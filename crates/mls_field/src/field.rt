@@ -1,6 +1,7 @@
 //! The sums of a rank's block.
 
 ghost use Rattle.mls_field.specs.Fields.{IsField};
+ghost use Rattle.mls_model.specs.Studies.{AreSizes};
 
 use crate::cells::{
     MOST_SUMS, add_rows_to_ends, add_rows_to_numbers, add_rows_to_sums, power_of, read_ends,
@@ -10,9 +11,12 @@ use crate::columns::{add_to_ends, add_to_numbers, add_to_sums};
 use crate::ends::clear_ends;
 use crate::fold::RowFold;
 use crate::gathered::gather;
+use crate::put::{put_ends, put_numbers, put_powers, put_products};
+use crate::stored::take_planes;
 use mls_base::faults::NoMemory;
 use mls_base::rows::Rows;
 use mls_base::shape::Shape;
+use mls_ckpt::{Put, RecoverFault, Take};
 use mls_cov::Martinez;
 use mls_power::columns::GROUPS;
 use mls_power::ends::EXTREMA_NUMBERS;
@@ -41,9 +45,12 @@ pub struct Field {
     numbers: Vec<u32>,
     samples: Vec<u16>,
     ghost kept: { IsField shape rank places counts.items waiting.items sums.items ends.items numbers.items samples.items },
+    ghost sized: { AreSizes shape },
 }
 
 impl RowFold for Field {
+    ghost use Rattle.mls_ckpt.specs.CellParts.{part_at, sums_part};
+    ghost use Rattle.mls_field.specs.Spelled.{part_of_field};
     ghost use Rattle.mls_field.specs.Stands.{shape_of, rank_of, row_count, StandsFor};
 
     ghost shape_of = { shape_of };
@@ -53,6 +60,12 @@ impl RowFold for Field {
     ghost row_count = { row_count };
 
     ghost stands = { StandsFor };
+
+    ghost part = { part_of_field };
+
+    ghost part_at = { part_at };
+
+    ghost part_of = { sums_part };
 
     fn new(alloc: Global, shape: &Shape, rank: u32) -> Result<Field, NoMemory> {
         let block = shape.block(rank);
@@ -96,6 +109,60 @@ impl RowFold for Field {
         clear_ends(self.ends.as_mut_slice(), planes, self.places as usize);
         self.numbers.as_mut_slice().fill(0);
     }
+
+    fn put(&self, out: &mut Put) -> Result<(), NoMemory> {
+        for step in 0..self.shape.planes() {
+            self.put_plane(step, out)?;
+        }
+        Ok(())
+    }
+
+    fn take(
+        alloc: Global,
+        shape: &Shape,
+        rank: u32,
+        counts: &[u32],
+        from: &mut Take<'_>,
+    ) -> Result<Field, RecoverFault> {
+        let block = shape.block(rank);
+        let places = block.end - block.first;
+        let planes = shape.planes() as usize;
+        let cells = planes * places as usize;
+        let rows = shape.parameters() as usize + 2;
+        let kept = counts.to_vec(alloc)?;
+        let waiting = vec![in alloc; 0u32; planes]?;
+        let mut sums = vec![in alloc; 0u64; 4 * rows * cells]?;
+        let mut ends = vec![in alloc; 0u16; EXTREMA_NUMBERS * cells]?;
+        let mut numbers = vec![in alloc; 0u32; shape.thresholds() as usize * cells]?;
+        let samples = vec![in alloc; 0u16; GROUPS * rows * cells]?;
+        let start = *from;
+        let read = take_planes(
+            sums.as_mut_slice(),
+            ends.as_mut_slice(),
+            numbers.as_mut_slice(),
+            shape,
+            counts,
+            places as usize,
+            from,
+        );
+        if let Err(fault) = read {
+            *from = start;
+            return Err(fault);
+        }
+        Ok(Field {
+            shape: *shape,
+            rank,
+            places,
+            counts: kept,
+            waiting,
+            sums,
+            ends,
+            numbers,
+            samples,
+        })
+    }
+
+    fn part_laws() {}
 }
 
 impl Field {
@@ -119,6 +186,10 @@ impl Field {
     ghost use Rattle.mls_field.specs.Kept.{sums_in_cell, ends_in_cell, numbers_in_cell, sums_at};
     ghost use Rattle.mls_field.specs.Kept.{HasPowers, HasEnds, HasNumbers, HasProducts, HasValuePowers};
     ghost use Rattle.mls_model.specs.CellSums.{sums_of};
+    ghost use Rattle.std.specs.Prelude.{List, ◌++◌, OnOk};
+    ghost use Rattle.mls_ckpt.specs.Reading.{texts};
+    ghost use Rattle.mls_ckpt.specs.CellParts.{cell_text};
+    ghost use Rattle.mls_field.specs.Spelled.{cells_of_plane};
     ghost use Rattle.mls_model.specs.SumsText.{height, variance_top_of, third_top_of};
 
     // Puts a row at each place of a plane with those that wait.
@@ -308,6 +379,34 @@ impl Field {
             waiting,
         );
         numbers
+    }
+
+    // Appends the sums of a cell, with the rows that wait for it.
+    fn put_cell(&self, step: u32, cell: u32, out: &mut Put) -> Result<(), NoMemory>
+        requires step_in { step < planes (shape_of self.now) }
+        requires cell_in { cell < width (block (shape_of self.now) (rank_of self.now)) }
+        ensures { OnOk result ((rest : List ℕ) → out.new ++ rest ≡ out.old ++ cell_text (sums_at self.now step cell) rest) }
+    {
+        let parameters = self.shape.parameters();
+        let sums = self.whole_sums(step, cell);
+        let power = power_of(&sums, parameters, self.rows(step));
+        let ends = self.whole_ends(step, cell);
+        let numbers = self.whole_numbers(step, cell);
+        put_powers(out, &power)?;
+        put_ends(out, &ends)?;
+        put_numbers(out, &numbers, self.shape.thresholds() as usize)?;
+        put_products(out, &sums, 4 + 4 * parameters as usize)
+    }
+
+    // Appends the sums of the cells of a plane.
+    fn put_plane(&self, step: u32, out: &mut Put) -> Result<(), NoMemory>
+        requires { step < planes (shape_of self.now) }
+        ensures { OnOk result ((rest : List ℕ) → out.new ++ rest ≡ out.old ++ texts cell_text (cells_of_plane self.now step) rest) }
+    {
+        for cell in 0..self.places {
+            self.put_cell(step, cell, out)?;
+        }
+        Ok(())
     }
 
     /// The power sums of a cell, over shifted values.

@@ -7,3 +7,6 @@ mod ends;
 pub mod field;
 pub mod fold;
 mod gathered;
+mod put;
+mod stored;
+mod taken;

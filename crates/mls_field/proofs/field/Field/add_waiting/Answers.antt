@@ -138,19 +138,17 @@ module _ (g : Over) (c : After-add_to_numbers g) where
       let same = spliced f.samples.items c.as_mut_slice.result.now c.gather.new.samples f.samples.len c.as_mut_slice.ensures.len c.gather.auto.samples in
       subst (λ (xs : List ℕ). get_or xs i 0 ≤ 65535) (sym same) (c.gather.ensures.small (λ k. subst (λ (ys : List ℕ). get_or ys k 0 ≤ 65535) (sym c.as_mut_slice.ensures.value) (f.kept.small k)) i)
 
-pub invariant_of-self : goal.invariant_of-self
-invariant_of-self g c =
+pub invariant_of-self-clause-kept : goal.invariant_of-self-clause-kept
+invariant_of-self-clause-kept g c =
     let f = c.args.self.now in
-    let d = (goal.at.invariant_of-self g c).After-add_to_numbers in
+    let d = (goal.at.invariant_of-self-clause-kept g c).After-add_to_numbers in
     let count : c.index_mut.result.now ≡ get_or f.counts.items c.args.step 0 = get_or_read f.counts.items c.args.step _ (omega (arith, f.kept.each_plane, c.requires.plane_in)) c.index_mut.ensures.value 0 in
-    record {
-      kept = field_settled f.shape f.rank f.places f.counts.items f.waiting.items f.sums.items f.ends.items f.numbers.items f.samples.items _ _ _ _ c.args.step c.index_mut.result.now c.parameters-parameters.ensures.valid.thresholds_rise f.kept c.requires.plane_in count (omega (arith, count, c.requires.room)) c.requires.waiting
-          (long_as_before f.samples.items _ c.gather.new.samples f.samples.len c.as_mut_slice.ensures.value c.as_mut_slice.ensures.len c.gather.auto.samples) (small_now g d)
-          (long_as_before f.sums.items _ c.add_to_sums.new.words f.sums.len c.as_mut_slice-2.ensures.value c.as_mut_slice-2.ensures.len c.add_to_sums.auto.words)
-          (long_as_before f.ends.items _ c.add_to_ends.new.ends f.ends.len c.as_mut_slice-3.ensures.value c.as_mut_slice-3.ensures.len c.add_to_ends.auto.ends)
-          (long_as_before f.numbers.items _ c.add_to_numbers.new.numbers f.numbers.len c.as_mut_slice-4.ensures.value c.as_mut_slice-4.ensures.len c.add_to_numbers.auto.numbers)
-          (sums_walk g d) (ends_walk g d) (numbers_walk g d);
-    }
+    field_settled f.shape f.rank f.places f.counts.items f.waiting.items f.sums.items f.ends.items f.numbers.items f.samples.items _ _ _ _ c.args.step c.index_mut.result.now c.parameters-parameters.ensures.valid.thresholds_rise f.kept c.requires.plane_in count (omega (arith, count, c.requires.room)) c.requires.waiting
+    (long_as_before f.samples.items _ c.gather.new.samples f.samples.len c.as_mut_slice.ensures.value c.as_mut_slice.ensures.len c.gather.auto.samples) (small_now g d)
+    (long_as_before f.sums.items _ c.add_to_sums.new.words f.sums.len c.as_mut_slice-2.ensures.value c.as_mut_slice-2.ensures.len c.add_to_sums.auto.words)
+    (long_as_before f.ends.items _ c.add_to_ends.new.ends f.ends.len c.as_mut_slice-3.ensures.value c.as_mut_slice-3.ensures.len c.add_to_ends.auto.ends)
+    (long_as_before f.numbers.items _ c.add_to_numbers.new.numbers f.numbers.len c.as_mut_slice-4.ensures.value c.as_mut_slice-4.ensures.len c.add_to_numbers.auto.numbers)
+    (sums_walk g d) (ends_walk g d) (numbers_walk g d)
 
 pub returns-clause-stands : goal.returns-clause-stands
 returns-clause-stands g c = λ t stands.

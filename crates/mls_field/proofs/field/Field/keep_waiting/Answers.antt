@@ -42,6 +42,7 @@ invariant_of-self-3 g c =
     record {
       kept = field_waits f.shape f.rank f.places f.counts.items f.waiting.items f.sums.items f.ends.items f.numbers.items f.samples.items _ c.args.step c.index_mut.result.now c.index-waiting.result.now f.kept c.requires.plane_in count (omega (arith, count, c.requires.room)) is (omega (arith, is, c.requires.waiting))
           (ap length same ∙ (c.gather.auto.samples ∙ ap length c.as_mut_slice.ensures.value)) (λ i. subst (λ (xs : List ℕ). get_or xs i 0 ≤ 65535) (sym same) (c.gather.ensures.small (λ k. subst (λ (ys : List ℕ). get_or ys k 0 ≤ 65535) (sym c.as_mut_slice.ensures.value) (f.kept.small k)) i));
+      sized = f.sized;
     }
 
 pub returns-clause-stands : goal.returns-clause-stands

@@ -44,16 +44,14 @@ module _ (c : After-clear_ends) where
       let w = c.block-block.result.end - c.block-block.result.first in
       no_ends _ (planes s) w c.as_mut_slice.result.now c.clear_ends.new.ends (ends_long c.in_ok-ends.ends.items _ _ _ w c.as_mut_slice.ensures.value (c.in_ok-ends.ensures.items_if_clones_equal (λ y e. e)) c.planes-planes.ensures.value) c.clear_ends.auto.ends c.planes-planes.ensures.value c.clear_ends.ensures.least c.clear_ends.ensures.greatest
 
-pub invariant_of-result : goal.invariant_of-result
-invariant_of-result c =
+pub invariant_of-result-clause-kept : goal.invariant_of-result-clause-kept
+invariant_of-result-clause-kept c =
     let s = c.args.shape.now in
     let w = c.block-block.result.end - c.block-block.result.first in
-    let d = (goal.at.invariant_of-result c).After-clear_ends in
-    record {
-      kept = field_fresh s c.args.rank w _ _ _ _ _ _ c.requires (ap width c.block-block.ensures.value) (counts d) (waiting d) (sums d)
-          (replaced (λ (es : List ℕ). AreNoEnds (planes s) w es) c.in_ok-ends.ends.items c.as_mut_slice.result.now c.clear_ends.new.ends c.in_ok-ends.ends.len c.as_mut_slice.ensures.len c.clear_ends.auto.ends (cleared d))
-          (numbers d) (samples d).long (λ i. omega (arith, (samples d).each i));
-    }
+    let d = (goal.at.invariant_of-result-clause-kept c).After-clear_ends in
+    field_fresh s c.args.rank w _ _ _ _ _ _ c.requires (ap width c.block-block.ensures.value) (counts d) (waiting d) (sums d)
+    (replaced (λ (es : List ℕ). AreNoEnds (planes s) w es) c.in_ok-ends.ends.items c.as_mut_slice.result.now c.clear_ends.new.ends c.in_ok-ends.ends.len c.as_mut_slice.ensures.len c.clear_ends.auto.ends (cleared d))
+    (numbers d) (samples d).long (λ i. omega (arith, (samples d).each i))
 
 pub returns-clause-stands : goal.returns-clause-stands
 returns-clause-stands c =

@@ -38,11 +38,11 @@ module _ (c : After-fill-4) where
       replaced (λ (es : List ℕ). AreNoEnds (planes f.shape) f.places es) f.ends.items c.as_mut_slice-4.result.now c.clear_ends.new.ends f.ends.len c.as_mut_slice-4.ensures.len c.clear_ends.auto.ends
       (no_ends _ (planes f.shape) f.places c.as_mut_slice-4.result.now c.clear_ends.new.ends (ap length c.as_mut_slice-4.ensures.value ∙ f.kept.extrema_in.long) c.clear_ends.auto.ends c.planes-planes.ensures.value c.clear_ends.ensures.least c.clear_ends.ensures.greatest)
 
-pub invariant_of-self : goal.invariant_of-self
-invariant_of-self c =
+pub invariant_of-self-clause-kept : goal.invariant_of-self-clause-kept
+invariant_of-self-clause-kept c =
     let f = c.args.self.now in
-    let d = (goal.at.invariant_of-self c).After-fill-4 in
-    record { kept = field_fresh f.shape f.rank f.places _ _ _ _ _ _ f.kept.rank_in f.kept.block_width (counts d) (waiting d) (sums d) (ends d) (numbers d) f.kept.room f.kept.small }
+    let d = (goal.at.invariant_of-self-clause-kept c).After-fill-4 in
+    field_fresh f.shape f.rank f.places _ _ _ _ _ _ f.kept.rank_in f.kept.block_width (counts d) (waiting d) (sums d) (ends d) (numbers d) f.kept.room f.kept.small
 
 pub returns-clause-stands : goal.returns-clause-stands
 returns-clause-stands c =

@@ -1,0 +1,5 @@
+use Rattle.mls_field.specs.StoredCells.{Stored}
+use Rattle.mls_field.proofs.stored.put_numbers.Given as goal
+
+abbrev pub invariant-loop-c : goal.invariant-loop-c
+invariant-loop-c l = Stored l.row l.c l.places l.place l.fn.numbers l.numbers l.cell
