@@ -14,4 +14,3 @@ pub use assembled::Assembled;
 pub use group_step::GroupStep;
 pub use pending::Pending;
 pub use pending_rows::PendingRows;
-

@@ -17,4 +17,3 @@ pub use design::Design;
 pub use piece::make_piece;
 pub use solver::solve;
 pub use text::write_design;
-

@@ -16,4 +16,3 @@ pub use frames::{Frame, Piece, Samples};
 pub use mls_model::lanes::FrameFault;
 pub use piece_view::PieceView;
 pub use putting::put;
-

@@ -20,4 +20,3 @@ pub use reading::{EventFault, read_events};
 pub use totals::Totals;
 pub use watch::Watch;
 pub use writing::write_watch;
-

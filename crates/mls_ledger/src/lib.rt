@@ -5,4 +5,3 @@ pub mod marks;
 mod reading;
 
 pub use marks::Marks;
-

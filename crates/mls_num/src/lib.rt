@@ -7,4 +7,3 @@ pub mod texts;
 
 pub use fractions::{digits12, rho6, root};
 pub use texts::{Digits, put_decimal, put_millionths};
-

@@ -18,4 +18,3 @@ pub use mls_model::lanes::{LaneEnd, LaneKind, LaneLine, SchedWhy, TapeWhy};
 pub use schedule::Schedule;
 pub use tape::Tape;
 pub use wire::Wire;
-

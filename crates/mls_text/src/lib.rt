@@ -23,4 +23,3 @@ pub fn put_bytes<O: Sink>(out: &mut O, bytes: &[u8]) -> Result<(), Failed>
 {
     put_all(out, bytes)
 }
-

@@ -4,9 +4,7 @@ ghost use Rattle.std.specs.Prelude.{◌≡◌, vec_len, IfOk};
 
 use mls_base::memory::{MemFiles, MemKeeper, MemSink};
 use mls_base::outside::Sink;
-use mls_cli::BufferedSink;
-use mls_cli::melissa;
-use mls_cli::run_over;
+use mls_cli::{BufferedSink, melissa, run_over};
 use mls_result::Status;
 use std::alloc::{AllocError, Global};
 
