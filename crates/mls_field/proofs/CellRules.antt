@@ -1,14 +1,13 @@
 -- The numbers of a cell that may be those of n rows are valid sums of a checkpoint.
-use Rattle.std.proofs.Common.{◌≡◌, ℕ, zero, suc, ◌+◌, ◌*◌, ◌/◌, ◌%◌, ◌^◌, ◌<◌, ◌≤◌, List, [], ◌∷◌, ◌++◌, length, map, take, get_or, ap, ◌∙◌, refl, sym, subst, arith}
+use Rattle.std.proofs.Common.{◌≡◌, ℕ, zero, suc, ◌+◌, ◌*◌, ◌<◌, ◌≤◌, List, [], ◌∷◌, ◌++◌, length, map, take, get_or, ap, ◌∙◌, refl, sym, subst, arith}
 use Rattle.std.proofs.lemmas.List.{map-append, length-map}
 use Rattle.std.proofs.lemmas.List.Concat.{flat_map-append}
-use Rattle.std.proofs.lemmas.Nat.{div-add-mod', mod_below}
 use Rattle.mls_model.specs.Numbers.{below, joined}
 use Rattle.mls_model.specs.Studies.{Sizes}
 use Rattle.mls_ckpt.specs.Reading.{AllFrom}
 use Rattle.mls_ckpt.specs.States.{after_one}
 use Rattle.mls_ckpt.specs.CellParts.{IsColumn, IsCell, most_after}
-use Rattle.mls_cov.specs.Rules.{AreSums, KeepsColumn, KeepsRules}
+use Rattle.mls_cov.specs.Rules.{KeepsRules}
 use Rattle.mls_cov.proofs.Bounds.{products_small}
 use Rattle.mls_cov.proofs.Squares.{twice_product}
 use Rattle.mls_field.specs.ColumnSums.{sums_size}

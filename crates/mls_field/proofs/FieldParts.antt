@@ -1,8 +1,8 @@
 -- The part of a checkpoint that spells the sums of a rank's block.
-use Rattle.std.proofs.Common.{◌≡◌, ℕ, zero, suc, ◌+◌, ◌*◌, ◌^◌, ◌<◌, ◌≤◌, List, [], ◌∷◌, length, map, take, get_or, pos, inl, inr, ap, ◌∙◌, refl, sym, subst, arith}
+use Rattle.std.proofs.Common.{◌≡◌, ℕ, zero, suc, ◌+◌, ◌*◌, ◌<◌, ◌≤◌, List, [], ◌∷◌, length, map, take, get_or, pos, inl, inr, ap, ◌∙◌, refl, sym, subst, arith}
 use Rattle.std.proofs.lemmas.Bool.{cases_lt}
 use Rattle.std.specs.List.{AllByRecursion}
-use Rattle.std.proofs.lemmas.List.{map-append, length-map, length-take-le, get_or-take, get_or_at, get_or_append_left}
+use Rattle.std.proofs.lemmas.List.{map-append, length-map, get_or-take, get_or_at, get_or_append_left}
 use Rattle.mls_model.specs.Numbers.{below}
 use Rattle.mls_model.specs.Studies.{Sizes, planes}
 use Rattle.mls_model.specs.Blocks.{block, width}
@@ -14,7 +14,6 @@ use Rattle.mls_ckpt.proofs.CellLaws.{cells_same, sums_read_again}
 use Rattle.mls_cov.specs.Sums.{HoldsSums}
 use Rattle.mls_cov.proofs.Same.{holds_same}
 use Rattle.mls_field.specs.declared.field.Field.{Field}
-use Rattle.mls_field.specs.ColumnSums.{sums_size}
 use Rattle.mls_field.specs.Kept.{sums_in_cell, ends_in_cell, numbers_in_cell, sums_at}
 use Rattle.mls_field.specs.Kinds.{ExtremaWithin, HoldExtrema, HoldSums, HoldNumbers}
 use Rattle.mls_field.specs.OutputSteps.{ends_step}

@@ -23,3 +23,4 @@ pub mod ReadInOrder
 pub mod TakenCells
 pub mod StoredPlaces
 pub mod FieldTaken
+pub mod TextSizes
