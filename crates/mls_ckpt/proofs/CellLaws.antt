@@ -336,19 +336,27 @@ plane_taken s rank n c r bytes e =
     let all = many_taken cell_text (λ i sums. IsCell s n sums) (λ i from. cell_at s n from) after_one (λ i c r bytes e. cell_taken s n c r bytes e) (width (block s rank)) 0 c r bytes e in
     record { valid = record { size = all.valid.0; each = all.valid.1 }; stands = all.stands; bytes = all.bytes }
 
-cells_again : (s : Sizes) (rank : ℕ) (marks : List ℕ) (cells : List (List CellSums)) → ((i : ℕ) → slice_index marks i ≤ 65535) → AreCells s rank marks cells → (at : ℕ) (rest : List ℕ) → (place : ℕ) × (cells_at s rank marks (record { at = at; left = cells_text cells rest }) ≡ Ok (cells, record { at = place; left = rest }))
+pub cells_again : (s : Sizes) (rank : ℕ) (marks : List ℕ) (cells : List (List CellSums)) → ((i : ℕ) → slice_index marks i ≤ 65535) → AreCells s rank marks cells → (at : ℕ) (rest : List ℕ) → (place : ℕ) × (cells_at s rank marks (record { at = at; left = cells_text cells rest }) ≡ Ok (cells, record { at = place; left = rest }))
 unfolding cells_at cells_text
 cells_again s rank marks cells few valid at rest =
     let all = many_again (texts cell_text) (λ plane row. IsPlane s rank (slice_index marks plane) row) (λ plane from. plane_at s rank (slice_index marks plane) from) after_one (λ plane row is. plane_again s rank (slice_index marks plane) row (few plane) is) cells 0 valid.each at rest in
     (all.0, rw (sym valid.size) all.1)
 
-cells_taken : (s : Sizes) (rank : ℕ) (marks : List ℕ) (c : Cursor) (r : List (List CellSums) × Cursor) → AreBytes c.left → cells_at s rank marks c ≡ Ok r → Taken (AreCells s rank marks r.0) (cells_text r.0) c r.1
+pub cells_taken : (s : Sizes) (rank : ℕ) (marks : List ℕ) (c : Cursor) (r : List (List CellSums) × Cursor) → AreBytes c.left → cells_at s rank marks c ≡ Ok r → Taken (AreCells s rank marks r.0) (cells_text r.0) c r.1
 unfolding cells_at cells_text
 cells_taken s rank marks c r bytes e =
     let all = many_taken (texts cell_text) (λ plane row. IsPlane s rank (slice_index marks plane) row) (λ plane from. plane_at s rank (slice_index marks plane) from) after_one (λ plane c r bytes e. plane_taken s rank (slice_index marks plane) c r bytes e) (planes s) 0 c r bytes e in
     record { valid = record { size = all.valid.0; each = all.valid.1 }; stands = all.stands; bytes = all.bytes }
 
--- a cell's text is that
+-- valid cells with one text are the same
+pub cells_same : (s : Sizes) (rank : ℕ) (marks : List ℕ) (xs ys : List (List CellSums)) → ((i : ℕ) → slice_index marks i ≤ 65535) → AreCells s rank marks xs → AreCells s rank marks ys → cells_text xs [] ≡ cells_text ys [] → xs ≡ ys
+cells_same s rank marks xs ys few xs_valid ys_valid same =
+    let first = cells_again s rank marks xs few xs_valid 0 [] in
+    let second = cells_again s rank marks ys few ys_valid 0 [] in
+    let read = same_ok _ _ (sym first.1 ∙ (ap (λ (left : List ℕ). cells_at s rank marks (record { at = 0; left = left })) same ∙ second.1)) in
+    ap (λ (r : List (List CellSums) × Cursor). r.0) read
+
+-- a cell's text is that of no more before what follows
 cell_text-front : (sums : CellSums) (rest : List ℕ) → cell_text sums rest ≡ cell_text sums [] ++ rest
 unfolding cell_text powers_text extrema_text
 cell_text-front sums rest =
@@ -363,7 +371,7 @@ cell_text-front sums rest =
     ∙ sym (append_assoc _ (texts (text w32) sums.above products_0) rest) ∙ ap (λ r. r ++ rest) (sym (numbers (texts (text w32) sums.above products_0)))
 
 -- the cells' text is that of no more before what follows
-cells_text-front : (cells : List (List CellSums)) (rest : List ℕ) → cells_text cells rest ≡ cells_text cells [] ++ rest
+pub cells_text-front : (cells : List (List CellSums)) (rest : List ℕ) → cells_text cells rest ≡ cells_text cells [] ++ rest
 unfolding cells_text
 cells_text-front cells rest = texts-front (texts cell_text) (λ row rest. texts-front cell_text cell_text-front row rest) cells rest
 

@@ -101,6 +101,11 @@ number_again w most n at rest fits few =
     let within : nat_lt most n ≡ false = grind (arith, nat_tests) in
     rw (long, back, within, left) refl
 
+-- how many bytes stand where a number is put before others
+pub text_long : (w : Width) (n : ℕ) (rest : List ℕ) → length (text w n rest) ≡ byte_len w + length rest
+unfolding spelled
+text_long w n rest = length-append (spelled w n) rest ∙ ap (λ k. k + length rest) (length-bytes_high_first (byte_len w) n)
+
 -- an answer that is no refusal is the other choice
 pub chosen : {A : Type 0} (refuses : Bool) (refusal : Refusal) (other : Read A) (r : A) → cond refuses (Err refusal) other ≡ Ok r → (refuses ≡ false) × (other ≡ Ok r)
 chosen true refusal other r e = absurd (let clash : ⊥ = cc in clash)

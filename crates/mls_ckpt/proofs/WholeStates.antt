@@ -2,15 +2,16 @@
 use Rattle.std.proofs.Common.{◌≡◌, ℕ, ◌-◌, ◌<◌, ◌≤◌, true, List, [], ◌++◌, length, take, slice_index, Ok, refl, sym, ap, subst, ◌∙◌, arith, length-append}
 use Rattle.std.proofs.Math.Seq.{take-append_seam}
 use Rattle.mls_model.specs.Studies.{Sizes, AreSizes}
+use Rattle.mls_model.specs.CellSums.{CellSums}
 use Rattle.mls_ckpt.specs.Reading.{Cursor, Read, end_at, AreBytes}
 use Rattle.mls_ckpt.specs.States.{State, marks_of_planes, IsState}
 use Rattle.mls_ckpt.specs.Spellings.{is_read, head_text, counts_text, marks_text, pending_text, spelled_state}
 use Rattle.mls_ckpt.specs.Checkpoints.{head_at, counts_at, marks_at, pending_at, checkpoint_of}
-use Rattle.mls_ckpt.specs.CellParts.{part_at, IsSumsPart}
+use Rattle.mls_ckpt.specs.CellParts.{part_at, cells_text, AreCells, IsSumsPart}
 use Rattle.mls_ckpt.specs.Laws.{IsReadPart, IsPartIn, AreFew, ReadsParts, Spells}
 use Rattle.mls_ckpt.proofs.Numbers.{same_ok, bytes_after}
 use Rattle.mls_ckpt.proofs.Steps.{both}
-use Rattle.mls_ckpt.proofs.CellLaws.{sums_read_again, sums_are_spelled}
+use Rattle.mls_ckpt.proofs.CellLaws.{sums_read_again, sums_are_spelled, cells_same}
 use Rattle.mls_ckpt.proofs.StateLaws.{head_again, head_taken, counts_again, counts_taken, marks_again, marks_taken, marks_few, pending_again, pending_taken, end_taken}
 
 -- what stands before the rest
@@ -78,6 +79,9 @@ few_in s marks sizes few i =
 
 pub sums_again : (s : Sizes) (rank : ℕ) (marks bytes : List ℕ) → AreSizes s → AreFew s marks → IsSumsPart s rank marks bytes → IsReadPart part_at s rank marks bytes
 sums_again s rank marks bytes sizes few valid = sums_read_again s rank marks bytes (few_in s marks sizes few) valid
+
+pub sums_same : (s : Sizes) (rank : ℕ) (marks : List ℕ) (xs ys : List (List CellSums)) → AreSizes s → AreFew s marks → AreCells s rank marks xs → AreCells s rank marks ys → cells_text xs [] ≡ cells_text ys [] → xs ≡ ys
+sums_same s rank marks xs ys sizes few xs_valid ys_valid same = cells_same s rank marks xs ys (few_in s marks sizes few) xs_valid ys_valid same
 
 pub sums_are_parts : ReadsParts part_at
 sums_are_parts s rank marks old new sizes few bytes e =

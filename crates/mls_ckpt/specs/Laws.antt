@@ -1,5 +1,5 @@
 -- What holds of every reader, spelling and valid state.
-use Rattle.std.specs.Prelude.{◌≡◌, ℕ, Bool, ◌+◌, ◌^◌, ◌<◌, ◌≤◌, List, ◌++◌, slice_index, true, Ok}
+use Rattle.std.specs.Prelude.{◌≡◌, ℕ, Bool, ◌+◌, ◌^◌, ◌<◌, ◌≤◌, List, [], ◌++◌, slice_index, true, Ok}
 use Rattle.std.specs.Int.{Width, byte_len}
 use Rattle.mls_model.specs.Studies.{Sizes, AreSizes, planes}
 use Rattle.mls_model.specs.Completion.{Key}
@@ -7,7 +7,8 @@ use Rattle.mls_ckpt.specs.Reading.{Cursor, Read, AreBytes, number_at, text}
 use Rattle.mls_ckpt.specs.States.{State, IsState, AreMarks, is_marked}
 use Rattle.mls_ckpt.specs.Spellings.{is_read, spelled_state}
 use Rattle.mls_ckpt.specs.Checkpoints.{checkpoint_of}
-use Rattle.mls_ckpt.specs.CellParts.{part_at, IsSumsPart}
+use Rattle.mls_model.specs.CellSums.{CellSums}
+use Rattle.mls_ckpt.specs.CellParts.{part_at, cells_text, AreCells, IsSumsPart}
 use Rattle.mls_ckpt.specs.Histories.{marks_of}
 
 -- a number is read from its bytes, whatever follows
@@ -78,6 +79,11 @@ SumsReadAgain = (s : Sizes) (rank : ℕ) (marks bytes : List ℕ) → AreSizes s
 abbrev pub SumsAreSpelled : Type 0
 SumsAreSpelled = (s : Sizes) (rank : ℕ) (marks : List ℕ) (old new : Cursor) → AreBytes old.left → part_at s rank marks old ≡ Ok new →
     IsPartIn (IsSumsPart s rank marks) old new
+
+-- valid sums of all cells with one spelling are the same
+abbrev pub SumsAreTheirs : Type 0
+SumsAreTheirs = (s : Sizes) (rank : ℕ) (marks : List ℕ) (xs ys : List (List CellSums)) → AreSizes s → AreFew s marks →
+    AreCells s rank marks xs → AreCells s rank marks ys → cells_text xs [] ≡ cells_text ys [] → xs ≡ ys
 
 -- the same of states with valid sums
 abbrev pub SavedStatesReadAgain : Type 0

@@ -1,7 +1,7 @@
 //! Laws of numbers, parts and states, for every list of bytes.
 
 ghost use Rattle.mls_ckpt.specs.CellParts.{part_at};
-ghost use Rattle.mls_ckpt.specs.Laws.{NumbersReadAgain, NumbersAreSpelled, ReadsParts, SumsReadAgain, SumsAreSpelled};
+ghost use Rattle.mls_ckpt.specs.Laws.{NumbersReadAgain, NumbersAreSpelled, ReadsParts, SumsReadAgain, SumsAreSpelled, SumsAreTheirs};
 ghost use Rattle.mls_ckpt.specs.Laws.{StatesReadAgain, StatesAreSpelled, SavedStatesReadAgain, SavedStatesAreSpelled};
 ghost use Rattle.mls_ckpt.specs.Laws.{MarksAreValid, MarksAreTests, MarksAreTheirs};
 
@@ -43,6 +43,11 @@ pub fn sums_read_again()
 pub fn sums_are_spelled()
     ensures spelled { SumsAreSpelled }
     ensures parts { ReadsParts part_at }
+{}
+
+/// The bytes of valid sums of all cells are those of no other valid sums.
+pub fn sums_are_theirs()
+    ensures { SumsAreTheirs }
 {}
 
 /// A state with valid sums is read from its spelling in each version that is read for the study.

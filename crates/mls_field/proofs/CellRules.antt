@@ -1,14 +1,13 @@
 -- The numbers of a cell that may be those of n rows are valid sums of a checkpoint.
-use Rattle.std.proofs.Common.{◌≡◌, ℕ, zero, suc, ◌+◌, ◌*◌, ◌/◌, ◌%◌, ◌^◌, ◌<◌, ◌≤◌, List, [], ◌∷◌, ◌++◌, length, map, take, get_or, ap, ◌∙◌, refl, sym, subst, arith}
+use Rattle.std.proofs.Common.{◌≡◌, ℕ, zero, suc, ◌+◌, ◌*◌, ◌<◌, ◌≤◌, List, [], ◌∷◌, ◌++◌, length, map, take, get_or, ap, ◌∙◌, refl, sym, subst, arith}
 use Rattle.std.proofs.lemmas.List.{map-append, length-map}
 use Rattle.std.proofs.lemmas.List.Concat.{flat_map-append}
-use Rattle.std.proofs.lemmas.Nat.{div-add-mod', mod_below}
 use Rattle.mls_model.specs.Numbers.{below, joined}
 use Rattle.mls_model.specs.Studies.{Sizes}
 use Rattle.mls_ckpt.specs.Reading.{AllFrom}
 use Rattle.mls_ckpt.specs.States.{after_one}
 use Rattle.mls_ckpt.specs.CellParts.{IsColumn, IsCell, most_after}
-use Rattle.mls_cov.specs.Rules.{AreSums, KeepsColumn, KeepsRules}
+use Rattle.mls_cov.specs.Rules.{KeepsRules}
 use Rattle.mls_cov.proofs.Bounds.{products_small}
 use Rattle.mls_cov.proofs.Squares.{twice_product}
 use Rattle.mls_field.specs.ColumnSums.{sums_size}
@@ -116,22 +115,3 @@ is_cell s n sums ends numbers few long long' h =
       parameters = length-map (below p) (column_in sums) ∙ length-below p;
       each = all_below (λ i column. IsColumn n (record { a = get_or sums 0 0; b = get_or sums 1 0; aa = get_or sums 2 0; bb = get_or sums 3 0 }) column) (column_in sums) p (λ k k_in. is_column p n k sums few k_in rules);
     }
-
--- ---- each product fits
-column_small : (n k j : ℕ) (sums : List ℕ) (c : ℕ) → n ≤ 65535 → AreSums n (get_or sums 0 0) (get_or sums 2 0) → AreSums n (get_or sums 1 0) (get_or sums 3 0) → KeepsColumn n k sums → j < 4 → c ≡ 4 + 4 * k + j → get_or sums c 0 < 256 ^ 8
-column_small n k zero sums c few a b h small e = subst (λ (m : ℕ). get_or sums m 0 < 256 ^ 8) (let f : 4 + 4 * k ≡ c = omega (arith, e) in f) (omega (arith, h.sums_in.first, few))
-column_small n k (suc zero) sums c few a b h small e = subst (λ (m : ℕ). get_or sums m 0 < 256 ^ 8) (let f : 4 + 4 * k + 1 ≡ c = omega (arith, e) in f) (omega (arith, h.sums_in.first, h.sums_in.second, few))
-column_small n k (suc (suc zero)) sums c few a b h small e = subst (λ (m : ℕ). get_or sums m 0 < 256 ^ 8) (let f : 4 + 4 * k + 2 ≡ c = omega (arith, e) in f) (omega (arith, products_small n _ _ _ _ _ few a h.sums_in h.with_a))
-column_small n k (suc (suc (suc zero))) sums c few a b h small e = subst (λ (m : ℕ). get_or sums m 0 < 256 ^ 8) (let f : 4 + 4 * k + 3 ≡ c = omega (arith, e) in f) (omega (arith, products_small n _ _ _ _ _ few b h.sums_in h.with_b))
-column_small n k (suc (suc (suc (suc j)))) sums c few a b h small e = absurd (omega (arith, small))
-
-pub product_small : (p n : ℕ) (sums : List ℕ) → n ≤ 65535 → KeepsRules n p sums → (c : ℕ) → c < 4 + 4 * p → get_or sums c 0 < 256 ^ 8
-product_small p n sums few h zero c_in = omega (arith, h.a.first, few)
-product_small p n sums few h (suc zero) c_in = omega (arith, h.b.first, few)
-product_small p n sums few h (suc (suc zero)) c_in = omega (arith, h.a.first, h.a.second, few)
-product_small p n sums few h (suc (suc (suc zero))) c_in = omega (arith, h.b.first, h.b.second, few)
-product_small p n sums few h (suc (suc (suc (suc c)))) c_in =
-    let k = c / 4 in
-    let j = c % 4 in
-    let whole : c ≡ 4 * k + j = omega (arith, div-add-mod' c 4) in
-    column_small n k j sums (suc (suc (suc (suc c)))) few h.a h.b (h.columns k (omega (arith, whole, c_in))) (mod_below c 4 (omega arith)) (omega (arith, whole))

@@ -1,8 +1,8 @@
 -- The part of a checkpoint that spells the sums of a rank's block.
-use Rattle.std.proofs.Common.{◌≡◌, ℕ, zero, suc, ◌+◌, ◌*◌, ◌^◌, ◌<◌, ◌≤◌, List, [], ◌∷◌, length, map, take, get_or, pos, inl, inr, ap, ◌∙◌, refl, sym, subst, arith}
+use Rattle.std.proofs.Common.{◌≡◌, ℕ, zero, suc, ◌+◌, ◌*◌, ◌<◌, ◌≤◌, List, [], ◌∷◌, length, map, take, get_or, pos, inl, inr, ap, ◌∙◌, refl, sym, subst, arith}
 use Rattle.std.proofs.lemmas.Bool.{cases_lt}
 use Rattle.std.specs.List.{AllByRecursion}
-use Rattle.std.proofs.lemmas.List.{map-append, length-map, length-take-le, get_or-take, get_or_at, get_or_append_left}
+use Rattle.std.proofs.lemmas.List.{map-append, length-map, get_or-take, get_or_at, get_or_append_left}
 use Rattle.mls_model.specs.Numbers.{below}
 use Rattle.mls_model.specs.Studies.{Sizes, planes}
 use Rattle.mls_model.specs.Blocks.{block, width}
@@ -10,11 +10,10 @@ use Rattle.mls_model.specs.Standing.{Table}
 use Rattle.mls_model.specs.CellSums.{CellSums, sums_of}
 use Rattle.mls_ckpt.specs.CellParts.{IsCell, IsPlane, AreCells, IsSumsPart, part_at, cells_text, sums_part, cells_of}
 use Rattle.mls_ckpt.specs.Laws.{IsReadPart}
-use Rattle.mls_ckpt.proofs.CellLaws.{sums_read_again}
+use Rattle.mls_ckpt.proofs.CellLaws.{cells_same, sums_read_again}
 use Rattle.mls_cov.specs.Sums.{HoldsSums}
 use Rattle.mls_cov.proofs.Same.{holds_same}
 use Rattle.mls_field.specs.declared.field.Field.{Field}
-use Rattle.mls_field.specs.ColumnSums.{sums_size}
 use Rattle.mls_field.specs.Kept.{sums_in_cell, ends_in_cell, numbers_in_cell, sums_at}
 use Rattle.mls_field.specs.Kinds.{ExtremaWithin, HoldExtrema, HoldSums, HoldNumbers}
 use Rattle.mls_field.specs.OutputSteps.{ends_step}
@@ -27,8 +26,7 @@ use Rattle.mls_field.proofs.Rows.{length-below, entry_of}
 use Rattle.mls_field.proofs.ThreeKinds.{ends_kind}
 use Rattle.mls_field.proofs.Kept.{sums_long, numbers_long, sums_of_rows}
 use Rattle.mls_field.proofs.Whole.{sums_whole, numbers_whole, within_whole, here}
-use Rattle.mls_field.proofs.CellRules.{all_below, same_maps, is_cell, product_small}
-use Rattle.mls_field.proofs.SameTexts.{Fits, Alike, Pairs, pairs_below, cells_same}
+use Rattle.mls_field.proofs.CellRules.{all_below, same_maps, is_cell}
 
 -- ---- the numbers of a cell, with the rows that wait
 ends_whole : (f : Field) (plane place : ℕ) → plane < planes f.shape → place < f.places → ExtremaWithin (row_count f plane) (ends_in_cell f plane place)
@@ -94,36 +92,6 @@ unfolding part_of_field cells_of_field sums_part cells_of
 part_spelled f t stands = ap (λ (cells : List (List CellSums)). cells_text cells []) (same_maps (cells_of_plane f) (λ plane. map (λ place. sums_of f.shape.parameters f.shape.thresholds (t plane place)) (below (width (block f.shape f.rank)))) (planes f.shape) (plane_spelled f t stands))
 
 -- ---- fields with one part stand for the same rows
-number_small : (numbers : List ℕ) (n : ℕ) → n ≤ 65535 → ((i : ℕ) → get_or numbers i 0 ≤ 2 * n) → (i : ℕ) → get_or numbers i 0 < 256 ^ 4
-number_small numbers n few each i = omega (arith, each i)
-
-front_small : (p n : ℕ) (sums : List ℕ) → length sums ≡ sums_size p → ((c : ℕ) → c < 4 + 4 * p → get_or sums c 0 < 256 ^ 8) → (i : ℕ) → get_or (take (4 + 4 * p) sums) i 0 < 256 ^ 8
-front_small p n sums long each i = elim (cases_lt i (4 + 4 * p)) [
-  | inl low ↦ omega (arith, get_or-take (4 + 4 * p) sums i 0 low, each i low)
-  | inr high ↦ omega (arith, get_or-beyond (take (4 + 4 * p) sums) i (omega (arith, high, length-take-le (4 + 4 * p) sums (omega (arith, long)))))
-]
-
-cell_fits : (f : Field) (plane place : ℕ) → plane < planes f.shape → place < f.places → Fits (sums_at f plane place)
-cell_fits f plane place p_in place_in =
-    let is = cell_valid f plane place p_in place_in in
-    let n = row_count f plane in
-    let few = f.kept.few plane in
-    let one = is.powers.first in
-    let two = is.powers.second in
-    let three = is.powers.third in
-    let four = is.powers.fourth in
-    let within = cell_within f plane place p_in place_in in
-    record {
-      first = omega (arith, few, one);
-      second = omega (arith, few, one, two);
-      third = omega (arith, few, one, two, three);
-      fourth = omega (arith, few, one, two, three, four);
-      least = omega (arith, is.extrema.least_fits);
-      greatest = omega (arith, is.extrema.greatest_fits);
-      above = number_small (numbers_in_cell f plane place) n few within.numbers_in.few;
-      products = front_small f.shape.parameters n (sums_in_cell f plane place) (sums_long f plane place) (product_small f.shape.parameters n (sums_in_cell f plane place) few within.sums_in.products);
-    }
-
 -- two fields of one study and rank with as many rows of each plane
 pub record Matched (f g : Field) : Type 0 where
   pub shapes : f.shape ≡ g.shape
@@ -133,37 +101,16 @@ pub record Matched (f g : Field) : Type 0 where
 places_same : (f g : Field) → Matched f g → f.places ≡ g.places
 places_same f g m = f.kept.block_width ∙ (ap (λ (s : Sizes). width (block s f.rank)) m.shapes ∙ (ap (λ (r : ℕ). width (block g.shape r)) m.ranks ∙ sym g.kept.block_width))
 
-cells_alike : (f g : Field) → Matched f g → (plane place : ℕ) → plane < planes f.shape → place < f.places → Alike (sums_at f plane place) (sums_at g plane place)
-cells_alike f g m plane place p_in place_in =
-    let p = ap (λ (s : Sizes). s.parameters) m.shapes in
-    let t = ap (λ (s : Sizes). length s.thresholds) m.shapes in
-    let count = ap (λ (s : Sizes). planes s) m.shapes in
-    record {
-      rows = m.counts plane p_in;
-      above = numbers_long f plane place ∙ (t ∙ sym (numbers_long g plane place));
-      products =
-          length-take-le (4 + 4 * f.shape.parameters) (sums_in_cell f plane place) (omega (arith, sums_long f plane place)) ∙
-          (ap (λ (q : ℕ). 4 + 4 * q) p ∙ sym (length-take-le (4 + 4 * g.shape.parameters) (sums_in_cell g plane place) (omega (arith, sums_long g plane place))));
-      left = cell_fits f plane place p_in place_in;
-      right = cell_fits g plane place (omega (arith, p_in, count)) (omega (arith, place_in, places_same f g m));
-    }
-
-planes_alike : (f g : Field) → Matched f g → (plane : ℕ) → plane < planes f.shape → Pairs Alike (cells_of_plane f plane) (cells_of_plane g plane)
-unfolding cells_of_plane
-planes_alike f g m plane p_in =
-    let wide : width (block f.shape f.rank) ≡ width (block g.shape g.rank) = sym f.kept.block_width ∙ (places_same f g m ∙ g.kept.block_width) in
-    subst (λ (w : ℕ). Pairs Alike (map (sums_at f plane) (below (width (block f.shape f.rank)))) (map (sums_at g plane) (below w))) wide
-    (pairs_below Alike (sums_at f plane) (sums_at g plane) (width (block f.shape f.rank)) (λ place inside. cells_alike f g m plane place p_in (here f place inside)))
-
-fields_alike : (f g : Field) → Matched f g → Pairs (Pairs Alike) (cells_of_field f) (cells_of_field g)
-unfolding cells_of_field
-fields_alike f g m =
-    subst (λ (n : ℕ). Pairs (Pairs Alike) (map (cells_of_plane f) (below (planes f.shape))) (map (cells_of_plane g) (below n))) (ap (λ (s : Sizes). planes s) m.shapes)
-    (pairs_below (Pairs Alike) (cells_of_plane f) (cells_of_plane g) (planes f.shape) (planes_alike f g m))
+-- the cells of the other are valid for the numbers of the one
+cells_of_other : (f g : Field) → Matched f g → AreCells f.shape f.rank (counts_of f) (cells_of_field g)
+cells_of_other f g m =
+    let counts : counts_of f ≡ counts_of g = same_maps (row_count f) (row_count g) (planes f.shape) m.counts ∙ ap (λ (s : Sizes). by_plane s (row_count g)) m.shapes in
+    subst (λ (s : Sizes). AreCells s f.rank (counts_of f) (cells_of_field g)) (sym m.shapes)
+    (subst (λ (rank : ℕ). AreCells g.shape rank (counts_of f) (cells_of_field g)) (sym m.ranks) (subst (λ (counts : List ℕ). AreCells g.shape g.rank counts (cells_of_field g)) (sym counts) (cells_valid g)))
 
 cells_agree : (f g : Field) → Matched f g → part_of_field f ≡ part_of_field g → cells_of_field f ≡ cells_of_field g
 unfolding part_of_field
-cells_agree f g m e = cells_same (cells_of_field f) (cells_of_field g) (fields_alike f g m) e
+cells_agree f g m e = cells_same f.shape f.rank (counts_of f) (cells_of_field f) (cells_of_field g) (counts_few f) (cells_valid f) (cells_of_other f g m) e
 
 entry_in : {A : Type 0} (f : ℕ → A) (n i : ℕ) (d : A) → i < n → get_or (map f (below n)) i d ≡ f i
 entry_in f zero i d h = absurd (omega (arith, h))

@@ -23,7 +23,7 @@ use Rattle.mls_field.specs.Spelled.{cells_of_plane, cells_of_field, part_of_fiel
 use Rattle.mls_field.proofs.WholeCells.{rows_none}
 use Rattle.mls_field.proofs.Zeros.{AreZeros}
 use Rattle.mls_field.proofs.CellRules.{same_maps}
-use Rattle.mls_field.proofs.SpelledCells.{cells_spelt, cells_text-front}
+use Rattle.mls_ckpt.proofs.CellLaws.{cells_taken, cells_text-front}
 
 pub field_taken : (s : Sizes) (rank w : ℕ) (counts waiting sums ends numbers samples : List ℕ) → rank < s.ranks → w ≡ width (block s rank) → length counts ≡ planes s → ((plane : ℕ) → get_or counts plane 0 ≤ 65535) → AreZeros (planes s) waiting → AreZeros (planes s * (8 * ((s.parameters + 2) * w))) samples
     → length sums ≡ planes s * sums_size s.parameters * w → length ends ≡ planes s * 2 * w → length numbers ≡ planes s * length s.thresholds * w
@@ -69,6 +69,10 @@ pub part_packed : (f : Field) → ((plane : ℕ) → get_or f.waiting.items plan
 unfolding part_of_field
 part_packed f none = ap (λ (cells : List (List CellSums)). cells_text cells []) (cells_packed f none)
 
+pub part_read : (s : Sizes) (rank : ℕ) (marks : List ℕ) (c : Cursor) (cells : List (List CellSums)) (new : Cursor) → cells_at s rank marks c ≡ Ok (cells, new) → part_at s rank marks c ≡ Ok new
+unfolding part_at
+part_read s rank marks c cells new e = rw e refl
+
 pub part_refused : (s : Sizes) (rank : ℕ) (marks : List ℕ) (c : Cursor) (fault : RecoverFault) → Refuses fault (cells_at s rank marks c) → Refuses fault (part_at s rank marks c)
 unfolding part_at
 part_refused s rank marks c (Bad at why) e = rw e refl
@@ -81,7 +85,7 @@ pub taken_part : (f : Field) (sums ends numbers counts : List ℕ) (old new : Cu
 taken_part f sums ends numbers counts old new none e1 e2 e3 e4 bytes read =
     let cells = packed_cells f.shape f.places sums ends numbers counts (planes f.shape) in
     let same : cells ≡ packed_cells f.shape f.places f.sums.items f.ends.items f.numbers.items f.counts.items (planes f.shape) = λ i. packed_cells f.shape f.places (e1 i) (e2 i) (e3 i) (e4 i) (planes f.shape) in
-    cells_spelt f.shape f.rank counts old (cells, new) bytes read ∙ (cells_text-front cells new.left ∙
+    (cells_taken f.shape f.rank counts old (cells, new) bytes read).stands ∙ (cells_text-front cells new.left ∙
     ap (λ bytes. bytes ++ new.left) (ap (λ (cs : List (List CellSums)). cells_text cs []) same ∙ part_packed f none))
 
 pub within_spliced : (s : Sizes) (w : ℕ) (a1 a2 a3 b1 b2 b3 : List ℕ) (n m plane place : ℕ) → a1 ≡ b1 → a2 ≡ b2 → a3 ≡ b3 → n ≡ m → PackedWithin s w a1 a2 a3 n plane place → PackedWithin s w b1 b2 b3 m plane place

@@ -8,7 +8,7 @@ use Rattle.mls_ckpt.specs.CellParts.{cell_text, cells_text}
 use Rattle.mls_field.specs.declared.field.Field.{Field}
 use Rattle.mls_field.specs.Kept.{sums_at}
 use Rattle.mls_field.specs.Spelled.{cells_of_plane, cells_of_field, part_of_field}
-use Rattle.mls_field.proofs.Texts.{Grown}
+use Rattle.mls_field.specs.PutBytes.{Grown}
 
 pub plane_grown : (f : Field) (step n : ℕ) (old new : List ℕ) → n ≡ width (block f.shape f.rank) → Grown old new (texts cell_text (map (sums_at f step) (below n))) → Grown old new (texts cell_text (cells_of_plane f step))
 unfolding cells_of_plane

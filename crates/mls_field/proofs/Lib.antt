@@ -16,12 +16,11 @@ pub mod Kept
 pub mod Whole
 pub mod FourSums
 pub mod CellRules
-pub mod SameTexts
 pub mod FieldParts
 pub mod Texts
 pub mod Grown
 pub mod ReadInOrder
 pub mod TakenCells
 pub mod StoredPlaces
-pub mod SpelledCells
 pub mod FieldTaken
+pub mod TextSizes

@@ -7,11 +7,8 @@ use Rattle.mls_model.specs.CellSums.{CellSums}
 use Rattle.mls_ckpt.specs.Reading.{spelled, text, texts}
 use Rattle.mls_ckpt.specs.CellParts.{powers_text, extrema_text, cell_text}
 use Rattle.mls_ckpt.proofs.Steps.{texts-append}
+use Rattle.mls_field.specs.PutBytes.{Grown}
 use Rattle.std.specs.Prelude.{Result, Ok, Err, OnOk}
-
--- the bytes grew by a text
-abbrev pub Grown : List ℕ → List ℕ → (List ℕ → List ℕ) → Type 0
-Grown old new write = (rest : List ℕ) → new ++ rest ≡ old ++ write rest
 
 pub number_put : (w : Width) (n : ℕ) (old new : List ℕ) → new ≡ old ++ spelled w n → Grown old new (text w n)
 number_put w n old new e rest = ap (λ (bytes : List ℕ). bytes ++ rest) e ∙ append_assoc old (spelled w n) rest

@@ -14,6 +14,7 @@ pub mod FieldSteps
 pub mod PlaneCounts
 pub mod PackedCells
 pub mod Spelled
+pub mod PutBytes
 pub mod Answered
 pub mod Taken
 pub mod StoredCells

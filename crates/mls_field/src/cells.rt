@@ -26,7 +26,8 @@ fn addend(column: Column, parameters: u32, samples: &[u16], at: usize, places: u
     requires few { parameters ≤ 16 }
     requires column { IsWithin (parameters + 2) column }
     requires samples { (r : ℕ) → r < parameters + 2 → at + r * places < length samples.now }
-    ensures value { (row : List ℕ) → IsRowAt (parameters + 2) places at samples.now row → result ≡ of_column column row }
+    ensures value { (row : List ℕ) → IsRowAt (parameters + 2) places at samples.now row →
+        result ≡ of_column column row }
     ensures small { result ≤ most_added column }
 {
     match column {
@@ -73,7 +74,8 @@ pub(crate) fn add_rows_to_sums(
     requires place { place < places }
     requires samples { start + (parameters + 2) * places * 8 ≤ length samples.now }
     requires room { HasRoomFor (SumsWithin parameters) waiting sums.old }
-    ensures range { (count : ℕ) → SumsWithin parameters count sums.old → SumsWithin parameters (count + waiting) sums.new }
+    ensures range { (count : ℕ) → SumsWithin parameters count sums.old →
+        SumsWithin parameters (count + waiting) sums.new }
     ensures whole { let row = row_behind (parameters + 2) places samples.now start place in
         AddsRows (sums_step parameters) (sums_size parameters) row waiting sums.old sums.new }
 {

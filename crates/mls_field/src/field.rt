@@ -25,13 +25,16 @@ use mls_power::extrema::Extrema;
 use mls_power::power::{Power, Powers};
 use std::alloc::Global;
 
-/// The sums of the rows of each cell of a rank's block, for each plane: all that `Power`, `Extrema`, `Exceed` and `Martinez` keep, over shifted values.
+/// The sums of the rows of each cell of a rank's block, for each plane: all that `Power`, `Extrema`, `Exceed` and
+/// `Martinez` keep, over shifted values.
 /// A step is the number of a plane, and a cell is a place in the block.
 ///
-/// Of each plane up to seven rows wait as samples. When an eighth comes, all are added together, so that the sums are read and written once for eight rows.
+/// Of each plane up to seven rows wait as samples. When an eighth comes, all are added together, so that the sums
+/// are read and written once for eight rows.
 /// A reader adds the rows that wait for a cell to the copy that it hands out.
 ///
-/// Each kind of sums lies in a list of its own, plane after plane, each plane's in columns that are as long as the plane.
+/// Each kind of sums lies in a list of its own, plane after plane, each plane's in columns that are as long as the
+/// plane.
 /// With p parameters and t thresholds a cell takes 68 + 32 · p + 4 · t bytes, and 16 · (p + 2) for the rows that wait.
 #[derive(Drop)]
 pub struct Field {
@@ -44,7 +47,8 @@ pub struct Field {
     ends: Vec<u16>,
     numbers: Vec<u32>,
     samples: Vec<u16>,
-    ghost kept: { IsField shape rank places counts.items waiting.items sums.items ends.items numbers.items samples.items },
+    ghost kept: { IsField shape rank places counts.items waiting.items
+        sums.items ends.items numbers.items samples.items },
     ghost sized: { AreSizes shape },
 }
 
@@ -111,6 +115,7 @@ impl RowFold for Field {
     }
 
     fn put(&self, out: &mut Put) -> Result<(), NoMemory> {
+        out.reserve(self.part_size())?;
         for step in 0..self.shape.planes() {
             self.put_plane(step, out)?;
         }
@@ -186,10 +191,11 @@ impl Field {
     ghost use Rattle.mls_field.specs.Kept.{sums_in_cell, ends_in_cell, numbers_in_cell, sums_at};
     ghost use Rattle.mls_field.specs.Kept.{HasPowers, HasEnds, HasNumbers, HasProducts, HasValuePowers};
     ghost use Rattle.mls_model.specs.CellSums.{sums_of};
-    ghost use Rattle.std.specs.Prelude.{List, ◌++◌, OnOk};
+    ghost use Rattle.std.specs.Prelude.{OnOk};
     ghost use Rattle.mls_ckpt.specs.Reading.{texts};
     ghost use Rattle.mls_ckpt.specs.CellParts.{cell_text};
-    ghost use Rattle.mls_field.specs.Spelled.{cells_of_plane};
+    ghost use Rattle.mls_field.specs.Spelled.{cells_of_plane, part_of_field};
+    ghost use Rattle.mls_field.specs.PutBytes.{Grown};
     ghost use Rattle.mls_model.specs.SumsText.{height, variance_top_of, third_top_of};
 
     // Puts a row at each place of a plane with those that wait.
@@ -293,7 +299,8 @@ impl Field {
     fn first_sample(&self, step: u32) -> usize
         requires { step < planes (shape_of self.now) }
         ensures value { result ≡ plane_start ((shape_of self.now).parameters + 2) self.now.places step }
-        ensures fits { result + ((shape_of self.now).parameters + 2) * self.now.places * 8 ≤ length self.now.samples.items }
+        ensures fits { let s = shape_of self.now in
+            result + (s.parameters + 2) * self.now.places * 8 ≤ length self.now.samples.items }
     {
         let stride = (self.shape.parameters() as usize + 2) * self.places as usize;
         step as usize * (GROUPS * stride)
@@ -385,7 +392,7 @@ impl Field {
     fn put_cell(&self, step: u32, cell: u32, out: &mut Put) -> Result<(), NoMemory>
         requires step_in { step < planes (shape_of self.now) }
         requires cell_in { cell < width (block (shape_of self.now) (rank_of self.now)) }
-        ensures { OnOk result ((rest : List ℕ) → out.new ++ rest ≡ out.old ++ cell_text (sums_at self.now step cell) rest) }
+        ensures { OnOk result (Grown out.old out.new (cell_text (sums_at self.now step cell))) }
     {
         let parameters = self.shape.parameters();
         let sums = self.whole_sums(step, cell);
@@ -401,12 +408,22 @@ impl Field {
     // Appends the sums of the cells of a plane.
     fn put_plane(&self, step: u32, out: &mut Put) -> Result<(), NoMemory>
         requires { step < planes (shape_of self.now) }
-        ensures { OnOk result ((rest : List ℕ) → out.new ++ rest ≡ out.old ++ texts cell_text (cells_of_plane self.now step) rest) }
+        ensures { OnOk result (Grown out.old out.new (texts cell_text (cells_of_plane self.now step))) }
     {
         for cell in 0..self.places {
             self.put_cell(step, cell, out)?;
         }
         Ok(())
+    }
+
+    // How many bytes its part of a checkpoint has.
+    fn part_size(&self) -> usize
+        ensures { result ≡ length (part_of_field self.now) }
+    {
+        let thresholds = self.shape.thresholds() as usize;
+        let parameters = self.shape.parameters() as usize;
+        let cells = self.shape.planes() as usize * self.places as usize;
+        (84 + 4 * thresholds + 32 * parameters) * cells
     }
 
     /// The power sums of a cell, over shifted values.
@@ -476,7 +493,8 @@ impl Field {
         requires step_in { step < planes (shape_of self.now) }
         requires cell_in { cell < width (block (shape_of self.now) (rank_of self.now)) }
         ensures kept { result ≡ variance_top_of (sums_at self.now step cell) }
-        ensures values { (t : Table) → StandsFor self.now t → result ≡ variance_top (values_of self.now (t step cell)) }
+        ensures values { (t : Table) → StandsFor self.now t →
+            result ≡ variance_top (values_of self.now (t step cell)) }
     {
         self.power(step, cell).variance_top()
     }
@@ -486,7 +504,8 @@ impl Field {
         requires step_in { step < planes (shape_of self.now) }
         requires cell_in { cell < width (block (shape_of self.now) (rank_of self.now)) }
         ensures kept { result ≡ third_top_of (sums_at self.now step cell) }
-        ensures values { (t : Table) → StandsFor self.now t → result ≡ third_top (values_of self.now (t step cell)) }
+        ensures values { (t : Table) → StandsFor self.now t →
+            result ≡ third_top (values_of self.now (t step cell)) }
     {
         self.power(step, cell).third_top()
     }

@@ -1,9 +1,9 @@
 //! The numbers of a cell as a checkpoint spells them, put one after the other.
 
-ghost use Rattle.std.specs.Prelude.{◌≡◌, ℕ, ◌≤◌, ◌++◌, List, take, length, slice_index, OnOk};
-ghost use Rattle.std.specs.Int.{w16, w32, w64, w128};
+ghost use Rattle.std.specs.Prelude.{◌≡◌, ◌≤◌, take, length, OnOk};
+ghost use Rattle.std.specs.Int.{w32, w64};
 ghost use Rattle.mls_ckpt.specs.Reading.{text, texts};
-ghost use Rattle.mls_power.specs.Standing.{first_of as power_first, second_of as power_second, third_of as power_third, fourth_of as power_fourth};
+ghost use Rattle.mls_field.specs.PutBytes.{Grown, power_text, ends_text};
 
 use mls_base::faults::NoMemory;
 use mls_ckpt::Put;
@@ -11,7 +11,7 @@ use mls_power::power::Power;
 
 /// Appends the power sums of a cell.
 pub(crate) fn put_powers(out: &mut Put, power: &Power) -> Result<(), NoMemory>
-    ensures { OnOk result ((rest : List ℕ) → out.new ++ rest ≡ out.old ++ text w64 (power_first power.now) (text w64 (power_second power.now) (text w128 (power_third power.now) (text w128 (power_fourth power.now) rest)))) }
+    ensures { OnOk result (Grown out.old out.new (power_text power.now)) }
 {
     out.put_u64(power.p1())?;
     out.put_u64(power.p2())?;
@@ -22,7 +22,7 @@ pub(crate) fn put_powers(out: &mut Put, power: &Power) -> Result<(), NoMemory>
 /// Appends the least and the greatest sample of a cell.
 pub(crate) fn put_ends(out: &mut Put, ends: &[u16]) -> Result<(), NoMemory>
     requires { length ends.now ≡ 2 }
-    ensures { OnOk result ((rest : List ℕ) → out.new ++ rest ≡ out.old ++ text w16 (slice_index ends.now 0) (text w16 (slice_index ends.now 1) rest)) }
+    ensures { OnOk result (Grown out.old out.new (ends_text ends.now)) }
 {
     out.put_u16(ends[0])?;
     out.put_u16(ends[1])
@@ -31,7 +31,7 @@ pub(crate) fn put_ends(out: &mut Put, ends: &[u16]) -> Result<(), NoMemory>
 /// Appends so many numbers above thresholds.
 pub(crate) fn put_numbers(out: &mut Put, numbers: &[u32], count: usize) -> Result<(), NoMemory>
     requires { count ≤ length numbers.now }
-    ensures { OnOk result ((rest : List ℕ) → out.new ++ rest ≡ out.old ++ texts (text w32) (take count numbers.now) rest) }
+    ensures { OnOk result (Grown out.old out.new (texts (text w32) (take count numbers.now))) }
 {
     for i in 0..count {
         out.put_u32(numbers[i])?;
@@ -42,7 +42,7 @@ pub(crate) fn put_numbers(out: &mut Put, numbers: &[u32], count: usize) -> Resul
 /// Appends so many sums of samples and products.
 pub(crate) fn put_products(out: &mut Put, sums: &[u64], count: usize) -> Result<(), NoMemory>
     requires { count ≤ length sums.now }
-    ensures { OnOk result ((rest : List ℕ) → out.new ++ rest ≡ out.old ++ texts (text w64) (take count sums.now) rest) }
+    ensures { OnOk result (Grown out.old out.new (texts (text w64) (take count sums.now))) }
 {
     for i in 0..count {
         out.put_u64(sums[i])?;

@@ -3,9 +3,8 @@
 ghost use Rattle.std.specs.Prelude.{◌≡◌, ℕ, ◌+◌, ◌*◌, ◌^◌, ◌<◌, ◌≤◌, length, slice_index, OnOk};
 ghost use Rattle.mls_model.specs.Studies.{planes};
 ghost use Rattle.mls_model.specs.Blocks.{block, width};
-ghost use Rattle.mls_ckpt.specs.Places.{cursor_of};
 ghost use Rattle.mls_ckpt.specs.CellParts.{plane_at, cells_at};
-ghost use Rattle.mls_field.specs.Answered.{AnswersWith};
+ghost use Rattle.mls_field.specs.Answered.{ReadsThese};
 ghost use Rattle.mls_field.specs.ColumnSums.{sums_size};
 ghost use Rattle.mls_field.specs.PackedCells.{PackedWithin, packed_plane, packed_cells};
 ghost use Rattle.mls_field.specs.StoredCells.{Stored, SameCell};
@@ -77,9 +76,11 @@ fn store(
     requires sums_long { length sums.old ≡ planes shape.now * sums_size shape.now.parameters * places }
     requires ends_long { length ends.old ≡ planes shape.now * 2 * places }
     requires numbers_long { length numbers.old ≡ planes shape.now * length shape.now.thresholds * places }
-    ensures sums { Stored (plane * sums_size shape.now.parameters) (sums_size shape.now.parameters) places place sums.old sums.new cell.now.sums }
+    ensures sums { let size = sums_size shape.now.parameters in
+        Stored (plane * size) size places place sums.old sums.new cell.now.sums }
     ensures ends { Stored (plane * 2) 2 places place ends.old ends.new cell.now.ends }
-    ensures numbers { Stored (plane * length shape.now.thresholds) (length shape.now.thresholds) places place numbers.old numbers.new cell.now.numbers }
+    ensures numbers { let size = length shape.now.thresholds in
+        Stored (plane * size) size places place numbers.old numbers.new cell.now.numbers }
     ensures room_for_sums { sums_size shape.now.parameters ≤ length cell.now.sums }
     ensures room_for_numbers { length shape.now.thresholds ≤ length cell.now.numbers }
 {
@@ -114,9 +115,13 @@ fn take_plane(
     requires sums_long { length sums.old ≡ planes shape.now * sums_size shape.now.parameters * places }
     requires ends_long { length ends.old ≡ planes shape.now * 2 * places }
     requires numbers_long { length numbers.old ≡ planes shape.now * length shape.now.thresholds * places }
-    ensures exact { (rank : ℕ) → width (block shape.now rank) ≡ places → AnswersWith (packed_plane shape.now places sums.new ends.new numbers.new n plane places) (cursor_of from.new) result (plane_at shape.now rank n (cursor_of from.old)) }
-    ensures within { OnOk result ((place : ℕ) → place < places → PackedWithin shape.now places sums.new ends.new numbers.new n plane place) }
-    ensures others { (other place : ℕ) → other < plane → place < places → SameCell shape.now places sums.old ends.old numbers.old sums.new ends.new numbers.new other place }
+    ensures exact { (rank : ℕ) → width (block shape.now rank) ≡ places →
+        ReadsThese (packed_plane shape.now places sums.new ends.new numbers.new n plane places)
+        (plane_at shape.now rank n) from.old from.new result }
+    ensures within { OnOk result ((place : ℕ) → place < places →
+        PackedWithin shape.now places sums.new ends.new numbers.new n plane place) }
+    ensures others { (other place : ℕ) → other < plane → place < places →
+        SameCell shape.now places sums.old ends.old numbers.old sums.new ends.new numbers.new other place }
 {
     for place in 0..places {
         let cell = take_cell(from, shape, n)?;
@@ -141,8 +146,12 @@ pub(crate) fn take_planes(
     requires sums_long { length sums.old ≡ planes shape.now * sums_size shape.now.parameters * places }
     requires ends_long { length ends.old ≡ planes shape.now * 2 * places }
     requires numbers_long { length numbers.old ≡ planes shape.now * length shape.now.thresholds * places }
-    ensures exact { (rank : ℕ) → width (block shape.now rank) ≡ places → AnswersWith (packed_cells shape.now places sums.new ends.new numbers.new counts.now (planes shape.now)) (cursor_of from.new) result (cells_at shape.now rank counts.now (cursor_of from.old)) }
-    ensures within { OnOk result ((plane place : ℕ) → plane < planes shape.now → place < places → PackedWithin shape.now places sums.new ends.new numbers.new (slice_index counts.now plane) plane place) }
+    ensures exact { let s = shape.now in
+        (rank : ℕ) → width (block s rank) ≡ places →
+        ReadsThese (packed_cells s places sums.new ends.new numbers.new counts.now (planes s))
+        (cells_at s rank counts.now) from.old from.new result }
+    ensures within { OnOk result ((plane place : ℕ) → plane < planes shape.now → place < places →
+        PackedWithin shape.now places sums.new ends.new numbers.new (slice_index counts.now plane) plane place) }
 {
     for plane in 0..counts.len() {
         take_plane(

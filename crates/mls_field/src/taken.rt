@@ -5,11 +5,10 @@ ghost use Rattle.std.specs.Int.{w16, w32, w64, w128};
 ghost use Rattle.mls_ckpt.specs.declared.faults.CkptWhy.TheVariants.{Range};
 ghost use Rattle.mls_ckpt.specs.declared.faults.RecoverFault.TheVariants.{Bad};
 ghost use Rattle.mls_ckpt.specs.Reading.{number_at};
-ghost use Rattle.mls_ckpt.specs.Places.{cursor_of};
 ghost use Rattle.mls_ckpt.specs.CellParts.{ArePowers, are_extrema, are_products, powers_at, extrema_at, above_at, totals_at, column_at, columns_at, cell_at};
 ghost use Rattle.mls_power.specs.Extremes.{least_in, greatest_in};
 ghost use Rattle.mls_cov.specs.Rules.{AreSums, AreProducts, KeepsColumn};
-ghost use Rattle.mls_field.specs.Answered.{Answers, AnswersWith};
+ghost use Rattle.mls_field.specs.Answered.{Reads, ReadsThese};
 ghost use Rattle.mls_field.specs.PackedCells.{CellWithin};
 ghost use Rattle.mls_field.specs.Taken.{powers_of, totals_of, cell_taken, AreOutputs, IsColumnOf, HoldOutputs, HalvesWithin, AreHalves, columns_in};
 ghost use Rattle.mls_field.specs.Kinds.{ExtremaWithin, NumbersWithin, third_of, fourth_of};
@@ -31,28 +30,28 @@ fn refused(at: u64) -> RecoverFault
 }
 
 fn u16_of(from: &mut Take<'_>, most: u16) -> Result<u16, RecoverFault>
-    ensures exact { Answers (λ n. n) (cursor_of from.new) result (number_at w16 most (cursor_of from.old)) }
+    ensures exact { Reads (λ n. n) (number_at w16 most) from.old from.new result }
     ensures few { IfOk result (λ n. n ≤ most) }
 {
     Ok(from.u16(most)?)
 }
 
 fn u32_of(from: &mut Take<'_>, most: u32) -> Result<u32, RecoverFault>
-    ensures exact { Answers (λ n. n) (cursor_of from.new) result (number_at w32 most (cursor_of from.old)) }
+    ensures exact { Reads (λ n. n) (number_at w32 most) from.old from.new result }
     ensures few { IfOk result (λ n. n ≤ most) }
 {
     Ok(from.u32(most)?)
 }
 
 fn u64_of(from: &mut Take<'_>, most: u64) -> Result<u64, RecoverFault>
-    ensures exact { Answers (λ n. n) (cursor_of from.new) result (number_at w64 most (cursor_of from.old)) }
+    ensures exact { Reads (λ n. n) (number_at w64 most) from.old from.new result }
     ensures few { IfOk result (λ n. n ≤ most) }
 {
     Ok(from.u64(most)?)
 }
 
 fn u128_of(from: &mut Take<'_>, most: u128) -> Result<u128, RecoverFault>
-    ensures exact { Answers (λ n. n) (cursor_of from.new) result (number_at w128 most (cursor_of from.old)) }
+    ensures exact { Reads (λ n. n) (number_at w128 most) from.old from.new result }
     ensures few { IfOk result (λ n. n ≤ most) }
 {
     Ok(from.u128(most)?)
@@ -76,7 +75,8 @@ struct OutputSums {
     bb: u64,
 }
 
-/// The numbers of a cell: the sums in the front of their array, the least and the greatest sample, and the numbers above thresholds in the front of theirs.
+/// The numbers of a cell: the sums in the front of their array, the least and the greatest sample, and the numbers
+/// above thresholds in the front of theirs.
 #[derive(Drop)]
 pub(crate) struct Cell {
     pub(crate) sums: [u64; MOST_SUMS],
@@ -87,7 +87,7 @@ pub(crate) struct Cell {
 #[tactic(auto, unfolding(mls_ckpt::specs::CellParts::powers_at))]
 fn take_powers(from: &mut Take<'_>, n: u32) -> Result<PowerSums, RecoverFault>
     requires { n ≤ 65535 }
-    ensures exact { Answers powers_of (cursor_of from.new) result (powers_at n (cursor_of from.old)) }
+    ensures exact { Reads powers_of (powers_at n) from.old from.new result }
     ensures rules { IfOk result (λ p. ArePowers n p.p1 p.p2 p.p3 p.p4) }
 {
     let samples = 2 * n as u64;
@@ -114,7 +114,7 @@ fn are_ends(n: u32, least: u16, greatest: u16) -> bool
 
 #[tactic(auto, unfolding(mls_ckpt::specs::CellParts::extrema_at))]
 fn take_ends(from: &mut Take<'_>, n: u32) -> Result<[u16; EXTREMA_NUMBERS], RecoverFault>
-    ensures exact { Answers (λ ends. (least_in ends, greatest_in ends)) (cursor_of from.new) result (extrema_at n (cursor_of from.old)) }
+    ensures exact { Reads (λ ends. (least_in ends, greatest_in ends)) (extrema_at n) from.old from.new result }
     ensures rules { IfOk result (λ ends. ExtremaWithin n ends) }
 {
     let at = from.at();
@@ -135,7 +135,7 @@ fn take_numbers(
 ) -> Result<[u32; MOST_THRESHOLDS], RecoverFault>
     requires few { n ≤ 65535 }
     requires thresholds { thresholds ≤ 8 }
-    ensures exact { Answers (take thresholds) (cursor_of from.new) result (above_at n thresholds (cursor_of from.old)) }
+    ensures exact { Reads (take thresholds) (above_at n thresholds) from.old from.new result }
     ensures rules { IfOk result (λ numbers. NumbersWithin n numbers) }
 {
     let mut numbers = [0; MOST_THRESHOLDS];
@@ -152,7 +152,7 @@ fn take_numbers(
 #[tactic(auto, unfolding(mls_ckpt::specs::CellParts::totals_at))]
 fn take_outputs(from: &mut Take<'_>, n: u32, powers: &PowerSums) -> Result<OutputSums, RecoverFault>
     requires { n ≤ 65535 }
-    ensures exact { Answers totals_of (cursor_of from.new) result (totals_at n (powers_of powers.now) (cursor_of from.old)) }
+    ensures exact { Reads totals_of (totals_at n (powers_of powers.now)) from.old from.new result }
     ensures rules { IfOk result (λ t. AreOutputs n powers.now.p1 powers.now.p2 t) }
 {
     let rows = n as u64;
@@ -202,7 +202,7 @@ fn take_column(from: &mut Take<'_>, n: u32, outputs: &OutputSums) -> Result<[u64
     requires few { n ≤ 65535 }
     requires a { AreSums n outputs.now.a outputs.now.aa }
     requires b { AreSums n outputs.now.b outputs.now.bb }
-    ensures exact { Answers (λ column. column) (cursor_of from.new) result (column_at n (totals_of outputs.now) (cursor_of from.old)) }
+    ensures exact { Reads (λ column. column) (column_at n (totals_of outputs.now)) from.old from.new result }
     ensures rules { IfOk result (λ column. IsColumnOf n outputs.now column) }
     ensures long { IfOk result (λ column. length column ≡ 4) }
 {
@@ -256,7 +256,8 @@ fn take_columns(
     requires a { AreSums n outputs.now.a outputs.now.aa }
     requires b { AreSums n outputs.now.b outputs.now.bb }
     requires there { HoldOutputs outputs.now sums.old }
-    ensures exact { AnswersWith (columns_in sums.new parameters) (cursor_of from.new) result (columns_at n (totals_of outputs.now) parameters (cursor_of from.old)) }
+    ensures exact { ReadsThese (columns_in sums.new parameters) (columns_at n (totals_of outputs.now) parameters)
+        from.old from.new result }
     ensures rules { OnOk result ((k : ℕ) → k < parameters → KeepsColumn n k sums.new) }
     ensures outputs { HoldOutputs outputs.now sums.new }
     ensures beyond { (i : ℕ) → 4 + 4 * parameters ≤ i → slice_index sums.new i ≡ slice_index sums.old i }
@@ -308,7 +309,8 @@ fn packed(powers: &PowerSums, outputs: &OutputSums, n: u32, parameters: usize) -
 #[tactic(auto, unfolding(mls_ckpt::specs::CellParts::cell_at))]
 pub(crate) fn take_cell(from: &mut Take<'_>, shape: &Shape, n: u32) -> Result<Cell, RecoverFault>
     requires { n ≤ 65535 }
-    ensures exact { Answers (cell_taken shape.now.parameters (length shape.now.thresholds) n) (cursor_of from.new) result (cell_at shape.now n (cursor_of from.old)) }
+    ensures exact { let s = shape.now in
+        Reads (cell_taken s.parameters (length s.thresholds) n) (cell_at s n) from.old from.new result }
     ensures within { IfOk result (λ cell. CellWithin shape.now.parameters n cell.sums cell.ends cell.numbers) }
 {
     let parameters = shape.parameters() as usize;

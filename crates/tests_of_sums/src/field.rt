@@ -1,6 +1,6 @@
 //! Sums of a small block that were worked out by hand.
 
-ghost use Rattle.std.specs.Prelude.{◌≡◌, ℕ, ◌+◌, ◌*◌, ◌<◌, ◌≤◌, length, IfSome};
+ghost use Rattle.std.specs.Prelude.{◌≡◌, ℕ, ◌+◌, ◌*◌, ◌<◌, ◌≤◌, length, IfOk, IfSome};
 ghost use Rattle.mls_model.specs.Studies.{planes};
 ghost use Rattle.mls_model.specs.Blocks.{block, width};
 ghost use Rattle.mls_field.specs.Stands.{shape_of, rank_of, row_count};
@@ -9,10 +9,12 @@ use mls_base::faults::NoMemory;
 use mls_base::numbers::Numbers;
 use mls_base::rows::Rows;
 use mls_base::shape::Shape;
+use mls_ckpt::{CkptWhy, Put, RecoverFault, Take};
 use mls_cov::IndexParts;
 use mls_field::field::Field;
 use mls_field::fold::RowFold;
 use mls_power::power::Powers;
+use std::alloc::Global;
 
 #[derive(Drop)]
 struct Grid<'a> {
@@ -45,7 +47,9 @@ impl<'a> Rows for Grid<'a> {
 }
 
 fn shape_of_two_cells() -> Option<Shape>
-    ensures { IfSome result (λ shape. shape.ranks ≡ 1) }
+    ensures ranks { IfSome result (λ shape. shape.ranks ≡ 1) }
+    ensures planes { IfSome result (λ shape. planes shape ≡ 2) }
+    ensures groups { IfSome result (λ shape. shape.groups ≡ 9) }
 {
     Shape::of(&Numbers {
         cells: 2,
@@ -162,6 +166,73 @@ fn wanted_further(least: u16, greatest: u16, above: (u32, u32)) -> Option<SeenFu
         above,
         parts,
     })
+}
+
+// The bytes of its part of a checkpoint.
+fn part_of(alloc: Global, field: &Field) -> Result<Vec<u8>, NoMemory> {
+    let mut out = Put::new(alloc);
+    field.put(&mut out)?;
+    Ok(out.finish())
+}
+
+// What a part says, with no row of the first plane and nine of the second.
+fn taken(alloc: Global, shape: &Shape, bytes: &[u8]) -> Result<Field, RecoverFault>
+    requires ranks { shape.now.ranks ≡ 1 }
+    requires planes { planes shape.now ≡ 2 }
+    requires groups { shape.now.groups ≡ 9 }
+    ensures shape { IfOk result (λ field. shape_of field ≡ shape.now) }
+    ensures rank { IfOk result (λ field. rank_of field ≡ 0) }
+{
+    let counts = [0, 9];
+    Field::take(alloc, shape, 0, &counts, &mut Take::new(bytes))
+}
+
+fn refusal(alloc: Global, shape: &Shape, bytes: &[u8]) -> Option<RecoverFault>
+    requires ranks { shape.now.ranks ≡ 1 }
+    requires planes { planes shape.now ≡ 2 }
+    requires groups { shape.now.groups ≡ 9 }
+{
+    match taken(alloc, shape, bytes) {
+        Ok(_) => None,
+        Err(fault) => Some(fault),
+    }
+}
+
+// A part has 124 bytes for each cell. In that of the last of four cells the sum of A · C stands at its place 108: nine times
+// 2 · 9. As A is the same in all rows, no other sum can stand there.
+#[test]
+fn nine_groups_are_put_and_taken(rt: HostRuntime) -> Result<(), NoMemory> {
+    let shape = shape_of_two_cells().expect(&rt, "a shape of two cells");
+    let mut field = Field::new(rt.alloc(), &shape, 0)?;
+    let block = Grid {
+        samples: &[1, 2, 3, 4, 9, 9],
+        rows: 3,
+        cells: 2,
+    };
+    add_nine_times(&mut field, &shape, &block);
+    let mut bytes = part_of(rt.alloc(), &field)?;
+    assert_eq!(rt; bytes.len(), 496);
+    let again = taken(rt.alloc(), &shape, bytes.as_slice()).expect(&rt, "a part");
+    assert_eq!(rt; look(&again, &shape, 0, 0), wanted(0, 0, 0, 0, 0, 0));
+    assert_eq!(rt;
+        look(&again, &shape, 1, 1),
+        wanted(9, 54, 180, 648, 2448, 324)
+    );
+    assert_eq!(rt;
+        look_further(&again, &shape, 1, 1),
+        wanted_further(2, 4, (18, 9))
+    );
+    let same = part_of(rt.alloc(), &again)?;
+    assert_eq!(rt; same.as_slice(), bytes.as_slice());
+    bytes[487] = 163;
+    assert_eq!(rt;
+        refusal(rt.alloc(), &shape, bytes.as_slice()),
+        Some(RecoverFault::Bad {
+            at: 480,
+            why: CkptWhy::Range,
+        })
+    );
+    Ok(())
 }
 
 #[test]

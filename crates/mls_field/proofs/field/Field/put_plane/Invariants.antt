@@ -3,7 +3,7 @@ use Rattle.mls_model.specs.Numbers.{below}
 use Rattle.mls_ckpt.specs.Reading.{texts}
 use Rattle.mls_ckpt.specs.CellParts.{cell_text}
 use Rattle.mls_field.specs.Kept.{sums_at}
-use Rattle.mls_field.proofs.Texts.{Grown}
+use Rattle.mls_field.specs.PutBytes.{Grown}
 use Rattle.mls_field.proofs.field.Field.put_plane.Given as goal
 
 abbrev pub invariant-loop-cell : goal.invariant-loop-cell

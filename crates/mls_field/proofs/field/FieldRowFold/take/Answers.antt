@@ -5,8 +5,7 @@ use Rattle.mls_ckpt.specs.Places.{cursor_of}
 use Rattle.mls_field.specs.ColumnSums.{sums_size}
 use Rattle.mls_field.proofs.InPlace.{spliced}
 use Rattle.mls_field.proofs.Zeros.{AreZeros, zeros}
-use Rattle.mls_field.proofs.SpelledCells.{part_read}
-use Rattle.mls_field.proofs.FieldTaken.{field_taken, taken_part, part_refused, long_of, within_spliced}
+use Rattle.mls_field.proofs.FieldTaken.{field_taken, taken_part, part_read, part_refused, long_of, within_spliced}
 use Rattle.mls_field.proofs.field.FieldRowFold.take.Goals as goal
 
 sums_long : (items held : List ℕ) (p p' planes planes' w : ℕ) → held ≡ items → items ≡ replicate (4 * (p + 2) * (planes * w)) 0 → p ≡ p' → planes ≡ planes' → length held ≡ planes' * sums_size p' * w
