@@ -1,4 +1,5 @@
 pub mod Counting
 pub mod Cores
 pub mod Standing
+pub mod Saving
 pub mod Waiting
