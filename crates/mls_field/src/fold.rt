@@ -83,7 +83,7 @@ pub trait RowFold: Sized + Drop {
         requires few { (plane : ℕ) → slice_index counts.now plane ≤ shape.now.groups }
         ensures shape { IfOk result (λ f. shape_of f ≡ shape.now) }
         ensures rank { IfOk result (λ f. rank_of f ≡ rank) }
-        ensures counted { IfOk result (λ f. (plane : ℕ) → plane < planes shape.now → row_count f plane ≡ slice_index counts.now plane) }
+        ensures counted { IfOk result (λ f. (plane : ℕ) → row_count f plane ≡ slice_index counts.now plane) }
         ensures read { OnOk result (part_at shape.now rank counts.now (cursor_of from.old) ≡ Ok (cursor_of from.new)) }
         ensures part { IfOk result (λ f. (cursor_of from.old).left ≡ part f ++ (cursor_of from.new).left) }
         ensures fault { IfErr result (λ fault. Refuses fault (part_at shape.now rank counts.now (cursor_of from.old)) × (cursor_of from.new ≡ cursor_of from.old)) };
