@@ -64,7 +64,7 @@ pub struct RankCore<F: RowFold> {
 
 impl<F: RowFold> RankCore<F> {
     ghost use Rattle.mls_rank.specs.Cores.{sizes_of, rank_of, counts_of, marks_of, has_mark, mark_count, fold_of, pending_of, AreMarks, SameRows, IsSame};
-    ghost use Rattle.mls_rank.specs.Saving.{state_of, RecoversSaved};
+    ghost use Rattle.mls_rank.specs.Saving.{state_of, SpellsCore, RecoversSaved};
     ghost use Rattle.mls_rank.specs.Standing.{StandsFor, as_event, pieces_of, IsPieceOutcome, IsEventOutcome, KeepsMore, IsOutcome, StandsOn, IsSmall, IsPart};
 
     /// The state before any event.
@@ -362,6 +362,8 @@ impl<F: RowFold> RankCore<F> {
         ensures spelled { IfOk result (λ bytes. bytes.items ≡ spelled_state 3 (sizes_of self.now) (rank_of self.now) (state_of self.now)) }
         ensures history { IfOk result (λ bytes. (h : List LaneEvent) → StandsFor self.now h
             → bytes.items ≡ checkpoint F.part_of (sizes_of self.now) (rank_of self.now) h) }
+        ensures spells { IfOk result (λ bytes. total_count (counts_of self.now) ≤ 2 ^ 62
+            → SpellsCore (sizes_of self.now) (rank_of self.now) bytes.items self.now) }
     {
         let mut out = Put::new(alloc);
         put_head(&self.shape, self.rank, &mut out)?;
