@@ -26,7 +26,7 @@ ghost use Rattle.mls_rank.specs.Waiting.{AreWaiting};
 ghost use Rattle.mls_rank.specs.Counting.{no_counts, is_idle, is_saved, is_crashed, IsUnkept};
 
 use crate::counting::{is_not_counted, no_events, one_more};
-use crate::recovering::{take_counts, take_head};
+use crate::recovering::{take_counts, take_end, take_head};
 use crate::saving::{put_counts, put_head};
 use mls_assembly::{Assembled, GroupStep, Pending};
 use mls_base::faults::NoMemory;
@@ -64,7 +64,7 @@ pub struct RankCore<F: RowFold> {
 
 impl<F: RowFold> RankCore<F> {
     ghost use Rattle.mls_rank.specs.Cores.{sizes_of, rank_of, counts_of, marks_of, has_mark, mark_count, fold_of, pending_of, AreMarks, SameRows, IsSame};
-    ghost use Rattle.mls_rank.specs.Saving.{state_of, SpellsCore, RecoversSaved};
+    ghost use Rattle.mls_rank.specs.Saving.{state_of, AreKept, SpellsCore, RecoversSaved};
     ghost use Rattle.mls_rank.specs.Standing.{StandsFor, as_event, pieces_of, IsPieceOutcome, IsEventOutcome, KeepsMore, IsOutcome, StandsOn, IsSmall, IsPart};
 
     /// The state before any event.
@@ -359,12 +359,16 @@ impl<F: RowFold> RankCore<F> {
 
     /// Its checkpoint, in version 3. After want of memory nothing of it is left.
     pub fn save_bytes(&self, alloc: Global) -> Result<Vec<u8>, NoMemory>
-        ensures spelled { IfOk result (λ bytes. bytes.items ≡ spelled_state 3 (sizes_of self.now) (rank_of self.now) (state_of self.now)) }
+        ensures spelled { IfOk result (λ bytes. bytes.items
+            ≡ spelled_state 3 (sizes_of self.now) (rank_of self.now) (state_of self.now)) }
         ensures history { IfOk result (λ bytes. (h : List LaneEvent) → StandsFor self.now h
             → bytes.items ≡ checkpoint F.part_of (sizes_of self.now) (rank_of self.now) h) }
         ensures spells { IfOk result (λ bytes. total_count (counts_of self.now) ≤ 2 ^ 62
             → SpellsCore (sizes_of self.now) (rank_of self.now) bytes.items self.now) }
     {
+        self.marks.valid();
+        self.pending.valid();
+        F::part_laws();
         let mut out = Put::new(alloc);
         put_head(&self.shape, self.rank, &mut out)?;
         put_counts(&self.counts, &mut out)?;
@@ -374,7 +378,42 @@ impl<F: RowFold> RankCore<F> {
         Ok(out.finish())
     }
 
-    /// The core whose state a checkpoint of this study and rank spells, in any version that is read for the study. `Bad` exactly where the bytes are none, at the first place that is wrong. It is never `Absent`.
+    // The core that bytes spell.
+    fn read(
+        alloc: Global,
+        shape: &Shape,
+        rank: u32,
+        bytes: &[u8],
+    ) -> Result<RankCore<F>, RecoverFault>
+        requires { rank < shape.now.ranks }
+        ensures sizes { IfOk result (λ core. sizes_of core ≡ shape.now) }
+        ensures rank { IfOk result (λ core. rank_of core ≡ rank) }
+        ensures read { IfOk result (λ core. checkpoint_of F.part_at shape.now rank bytes.now ≡ Ok (state_of core)) }
+        ensures kept { IfOk result (λ core. AreKept core) }
+        ensures fault { IfErr result (λ fault. Refuses fault (checkpoint_of F.part_at shape.now rank bytes.now)) }
+    {
+        F::part_laws();
+        shape.valid();
+        let mut from = Take::new(bytes);
+        take_head(shape, rank, &mut from)?;
+        let counts = take_counts(&mut from)?;
+        let marks = Marks::take(alloc, shape, &mut from)?;
+        marks.valid();
+        let fold = F::take(alloc, shape, rank, marks.counts(), &mut from)?;
+        let pending = Pending::take(alloc, shape, rank, &marks, &mut from)?;
+        pending.valid();
+        take_end(&from)?;
+        Ok(RankCore {
+            shape: *shape,
+            rank,
+            counts,
+            marks,
+            pending,
+            fold,
+        })
+    }
+
+    /// The core whose state a checkpoint of this study and rank spells, in any version that is read for the study. `Bad` exactly where the bytes are none, at the first place that is wrong.
     pub fn recover(
         alloc: Global,
         shape: &Shape,
@@ -389,20 +428,8 @@ impl<F: RowFold> RankCore<F> {
         ensures fault { IfErr result (λ fault. Refuses fault (checkpoint_of F.part_at shape.now rank bytes.now)) }
         ensures again { RecoversSaved shape.now rank bytes.now result }
     {
-        let mut from = Take::new(bytes);
-        take_head(shape, rank, &mut from)?;
-        let counts = take_counts(&mut from)?;
-        let marks = Marks::take(alloc, shape, &mut from)?;
-        let fold = F::take(alloc, shape, rank, marks.counts(), &mut from)?;
-        let pending = Pending::take(alloc, shape, rank, &marks, &mut from)?;
-        from.end()?;
-        Ok(RankCore {
-            shape: *shape,
-            rank,
-            counts,
-            marks,
-            pending,
-            fold,
-        })
+        F::part_laws();
+        shape.valid();
+        RankCore::read(alloc, shape, rank, bytes)
     }
 }
