@@ -19,13 +19,13 @@ passed_on (Err other) fault new read handed refuses = subst (λ f. Refuses f rea
 
 -- numbers behind others
 
+three_reads : (first second both : Cursor → Read Cursor) → ((c : Cursor) → both c ≡ (first c >>= second)) → (read : Read Cursor) → (read >>= both) ≡ ((read >>= first) >>= second)
+three_reads first second both each (Ok next) = each next
+three_reads first second both each (Err refusal) = refl
+
 append_read : (xs ys : List (Width × ℕ)) (c : Cursor) → all_fixed (xs ++ ys) c ≡ (all_fixed xs c >>= all_fixed ys)
 append_read [] ys c = refl
-append_read (x ∷ xs) ys c = behind (fixed_at why.Shape x.0 x.1 c)
-  where
-    behind : (read : Read Cursor) → (read >>= all_fixed (xs ++ ys)) ≡ ((read >>= all_fixed xs) >>= all_fixed ys)
-    behind (Ok next) = append_read xs ys next
-    behind (Err refusal) = refl
+append_read (x ∷ xs) ys c = three_reads (all_fixed xs) (all_fixed ys) (all_fixed (xs ++ ys)) (λ d. append_read xs ys d) (fixed_at why.Shape x.0 x.1 c)
 
 pub append_passes : (xs ys : List (Width × ℕ)) (old mid new : Cursor) (answer : Result (Unit {0}) RecoverFault) → all_fixed xs old ≡ Ok mid → Passes new answer (all_fixed ys mid) → Passes new answer (all_fixed (xs ++ ys) old)
 append_passes xs ys old mid new answer first second =

@@ -7,3 +7,5 @@ mod assembly;
 mod ledger;
 #[cfg(test)]
 mod rank;
+#[cfg(test)]
+mod saved;
