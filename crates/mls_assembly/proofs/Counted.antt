@@ -52,6 +52,14 @@ open_place : (o s : Bool) → (not o || s) ≡ false → (o ≡ true) × (s ≡ 
 open_place true s h = (refl, h)
 open_place false s h = absurd cc
 
+counts_one : (b : Bool) → b ≡ true → ◌≡◌ {A = ℕ} (cond b 1 0) 1
+counts_one true h = refl
+counts_one false h = absurd cc
+
+counts_none : (b : Bool) → b ≡ false → ◌≡◌ {A = ℕ} (cond b 1 0) 0
+counts_none true h = absurd cc
+counts_none false h = refl
+
 -- where it also passes one that the other does not, it passes more
 pub fewer_below : (over some : ℕ → Bool) (n : ℕ) → ((i : ℕ) → i < n → some i ≡ true → over i ≡ true) → list_all (λ i. not (over i) || some i) (below n) ≡ false → count_by some (below n) < count_by over (below n)
 fewer_below over some zero each missing = absurd cc
@@ -67,8 +75,8 @@ fewer_below over some (suc n) each missing =
     (λ (last : (not (over n) || some n) ≡ false).
     let before : count_by some (below n) ≤ count_by over (below n) = few_below over some n (λ i within. each i (omega arith)) in
     let is = open_place (over n) (some n) last in
-    let one : cond (over n) 1 0 ≡ 1 = ap (λ b. cond b 1 0) is.0 in
-    let none : cond (some n) 1 0 ≡ 0 = ap (λ b. cond b 1 0) is.1 in
+    let one : ◌≡◌ {A = ℕ} (cond (over n) 1 0) 1 = counts_one (over n) is.0 in
+    let none : ◌≡◌ {A = ℕ} (cond (some n) 1 0) 0 = counts_none (some n) is.1 in
     let less : count_by some (below (suc n)) < count_by over (below (suc n)) = omega arith in
     less)
     (either_false (list_all (λ i. not (over i) || some i) (below n)) (not (over n) || some n) (sym (all_last (λ i. not (over i) || some i) (below n) n) ∙ missing))

@@ -229,11 +229,11 @@ saved_unmarked held marks are valid key there =
 
 -- no other pending pieces are spelled so
 
-head_same : {A : Type 0} (a b : A) (as bs : List A) → a ∷ as ≡ b ∷ bs → a ≡ b
-head_same a b as bs e = cc
+head_same : {A : Type 0} (a b : A) (at bs : List A) → a ∷ at ≡ b ∷ bs → a ≡ b
+head_same a b at bs e = cc
 
-tail_same : {A : Type 0} (a b : A) (as bs : List A) → a ∷ as ≡ b ∷ bs → as ≡ bs
-tail_same a b as bs e = cc
+tail_same : {A : Type 0} (a b : A) (at bs : List A) → a ∷ at ≡ b ∷ bs → at ≡ bs
+tail_same a b at bs e = cc
 
 share_same : (s : Sizes) (rank client : ℕ) (x y : Share) → IsShare s rank client x → IsShare s rank client y → x.samples ≡ y.samples → x ≡ y
 share_same s rank client x y a b same =
