@@ -1,9 +1,9 @@
 -- The pending keys as a checkpoint has them: they are valid, and no other pending pieces are spelled so.
-use Rattle.std.proofs.Common.{◌≡◌, ℕ, zero, suc, ◌+◌, ◌*◌, ◌^◌, ◌<◌, ◌≤◌, Bool, true, false, not, ◌&&◌, ◌||◌, cond, List, [], ◌∷◌, ◌++◌, length, map, get_or, Option, Some, None, IsSome, ◌⊎◌, inl, inr, refl, ap, sym, ◌∙◌, subst, ⊎_elim, arith, length-append}
-use Rattle.std.specs.Prelude.{◌==◌, nat_lt, nat_le, count_by, slice_index, is_some}
-use Rattle.std.specs.List.{AllByRecursion, list_all}
+use Rattle.std.proofs.Common.{◌≡◌, ℕ, zero, suc, ◌+◌, ◌*◌, ◌<◌, ◌≤◌, true, false, cond, List, [], ◌∷◌, length, map, get_or, Option, Some, None, IsSome, ◌⊎◌, inl, inr, refl, ap, sym, ◌∙◌, subst, ⊎_elim, arith, length-append}
+use Rattle.std.specs.Prelude.{count_by, slice_index, is_some}
+use Rattle.std.specs.List.{AllByRecursion}
 use Rattle.std.specs.List.Sorted.{IsStrictlySortedBy}
-use Rattle.std.specs.Ordering.{nat_cmp, ordering_then}
+use Rattle.std.specs.Ordering.{nat_cmp}
 use Rattle.std.specs.declared.cmp.Ordering.TheVariants.{Less, Equal}
 use Rattle.std.specs.Map.{lookup, keys_of}
 use Rattle.std.specs.BTreeMap.{is_at}
@@ -65,8 +65,7 @@ shares_fit s rank first least (None ∷ slots) rises within are =
     shares_fit s rank (first + 1) least slots (omega arith) (omega arith) (next_slots s rank first None slots are)
 shares_fit s rank first least (Some share ∷ slots) rises within are =
     let room : first + suc (length slots) ≤ s.clients = within in
-    let own : IsShare s rank first share = own_slot s rank first share slots are in
-    (
+    let own : IsShare s rank first share = own_slot s rank first share slots are in (
       record {
         rises = rises;
         client = omega arith;
@@ -220,11 +219,10 @@ pub saved_unmarked : (held : Held) (marks : List (List ℕ)) → ArePending held
 saved_unmarked held marks are valid key there =
     let found = value_of (kept_of held key) there in
     let entry : (is_marked marks key ≡ false) × (length (shares_from 0 found.0.shares) < overlapping held.sizes held.rank) =
-    found_entry (λ k o. (is_marked marks (key_at k) ≡ false) × (length (shares_from 0 o.shares) < overlapping held.sizes held.rank)) held.entries (step_at key) found.0 (entries_of held.sizes held.rank marks first_key held.entries valid.keys) found.1 in
-    (
+    found_entry (λ k o. (is_marked marks (key_at k) ≡ false) × (length (shares_from 0 o.shares) < overlapping held.sizes held.rank)) held.entries (step_at key) found.0 (entries_of held.sizes held.rank marks first_key held.entries valid.keys) found.1 in (
       entry.0,
       ap (λ (x : Option KeyShares). has_all held.sizes held.rank (λ client. elim x [ None ↦ None | Some y ↦ share_in y client ])) found.1
-      ∙ missing_share held.sizes held.rank found.0 (are.each key found.0 found.1).shares entry.1,
+          ∙ missing_share held.sizes held.rank found.0 (are.each key found.0 found.1).shares entry.1,
     )
 
 -- no other pending pieces are spelled so

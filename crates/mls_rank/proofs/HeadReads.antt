@@ -7,9 +7,11 @@ use Rattle.std.proofs.lemmas.List.{drop_all}
 use Rattle.mls_ckpt.specs.declared.faults.CkptWhy.TheVariants as why
 use Rattle.mls_ckpt.specs.declared.faults.RecoverFault.{RecoverFault}
 use Rattle.mls_ckpt.specs.declared.faults.RecoverFault.TheVariants as recovers
-use Rattle.mls_ckpt.specs.Reading.{Cursor, Read, Refusal, Refuses, ◌>>=◌, fixed_at}
+use Rattle.mls_ckpt.specs.Reading.{Cursor, Read, Refuses, ◌>>=◌, fixed_at}
 use Rattle.mls_ckpt.specs.Checkpoints.{all_fixed}
-use Rattle.mls_rank.specs.Heads.{Passes}
+use Rattle.mls_model.specs.Studies.{Sizes}
+use Rattle.mls_ckpt.specs.Spellings.{samples_byte, head_numbers}
+use Rattle.mls_rank.specs.Heads.{Passes, mesh_numbers}
 use Rattle.mls_rank.proofs.HeadTexts.{sized}
 
 -- a fault that is handed on
@@ -34,6 +36,18 @@ append_passes xs ys old mid new answer first second =
 pub append_refuses : (xs ys : List (Width × ℕ)) (old : Cursor) (fault : RecoverFault) → Refuses fault (all_fixed xs old) → Refuses fault (all_fixed (xs ++ ys) old)
 append_refuses xs ys old (recovers.Bad at why) first = append_read xs ys old ∙ ap (λ r. r >>= all_fixed ys) first
 append_refuses xs ys old recovers.Memory first = tt
+
+-- all numbers behind the version
+
+head_is : (version : ℕ) (s : Sizes) (rank : ℕ) → samples_byte version s ++ mesh_numbers version s rank ≡ head_numbers version s rank
+unfolding head_numbers
+head_is version s rank = refl
+
+pub head_passes : (version : ℕ) (s : Sizes) (rank : ℕ) (old mid new : Cursor) (answer : Result (Unit {0}) RecoverFault) → all_fixed (samples_byte version s) old ≡ Ok mid → Passes new answer (all_fixed (mesh_numbers version s rank) mid) → Passes new answer (all_fixed (head_numbers version s rank) old)
+head_passes version s rank old mid new answer first second = subst (λ l. Passes new answer (all_fixed l old)) (head_is version s rank) (append_passes (samples_byte version s) (mesh_numbers version s rank) old mid new answer first second)
+
+pub head_refuses : (version : ℕ) (s : Sizes) (rank : ℕ) (old : Cursor) (fault : RecoverFault) → Refuses fault (all_fixed (samples_byte version s) old) → Refuses fault (all_fixed (head_numbers version s rank) old)
+head_refuses version s rank old fault first = subst (λ l. Refuses fault (all_fixed l old)) (head_is version s rank) (append_refuses (samples_byte version s) (mesh_numbers version s rank) old fault first)
 
 -- the thresholds that are left
 

@@ -1,5 +1,5 @@
 -- What was put part by part is the whole spelling.
-use Rattle.std.proofs.Common.{◌≡◌, ℕ, suc, ◌+◌, ◌<◌, ◌≤◌, List, [], ◌∷◌, ◌++◌, length, map, drop, refl, ap, sym, ◌∙◌, arith, append_assoc, drop-cons}
+use Rattle.std.proofs.Common.{◌≡◌, ℕ, suc, ◌+◌, ◌<◌, ◌≤◌, List, [], ◌∷◌, ◌++◌, length, map, drop, ap, sym, ◌∙◌, arith, append_assoc, drop-cons}
 use Rattle.std.specs.Prelude.{slice_index}
 use Rattle.std.specs.Int.{Width, w16, w32, w64, w8}
 use Rattle.std.proofs.lemmas.List.{drop_all, append-nil}
@@ -7,7 +7,7 @@ use Rattle.mls_model.specs.declared.outcomes.Counts.{Counts}
 use Rattle.mls_model.specs.Studies.{Sizes}
 use Rattle.mls_ckpt.specs.Reading.{spelled, text, texts}
 use Rattle.mls_ckpt.specs.States.{State}
-use Rattle.mls_ckpt.specs.Spellings.{magic, sized_text, threshold_numbers, head_numbers, head_text, counts_list, counts_text, marks_text, pending_text, spelled_state}
+use Rattle.mls_ckpt.specs.Spellings.{magic, sized_text, head_numbers, head_text, counts_list, counts_text, marks_text, pending_text, spelled_state}
 use Rattle.mls_ckpt.proofs.Steps.{text-front, row-front, texts-front}
 
 -- the thresholds that were put, and those that are left

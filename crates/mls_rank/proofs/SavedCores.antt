@@ -1,22 +1,21 @@
 -- The state of a core is valid, it is that of each history which the core stands for, and two cores with one state stand for the same.
-use Rattle.std.proofs.Common.{◌≡◌, ℕ, ◌^◌, ◌<◌, ◌≤◌, Bool, true, false, List, [], ◌∷◌, map, Result, Ok, Err, refl, ap, sym, ◌∙◌, subst, IsSome}
+use Rattle.std.proofs.Common.{◌≡◌, ℕ, ◌^◌, ◌<◌, ◌≤◌, List, map, Result, Ok, Err, refl, ap, sym, ◌∙◌, subst}
 use Rattle.std.specs.Prelude.{IfOk, IfErr, count_by}
 use Rattle.mls_model.specs.declared.outcomes.Counts.{Counts}
 use Rattle.mls_model.specs.Numbers.{below}
 use Rattle.mls_model.specs.Studies.{Sizes, AreSizes, planes}
-use Rattle.mls_model.specs.Frames.{Piece}
 use Rattle.mls_model.specs.Histories.{LaneEvent}
 use Rattle.mls_model.specs.Survival.{surviving}
 use Rattle.mls_model.specs.Fitting.{fitting}
-use Rattle.mls_model.specs.Completion.{Key, is_completed}
+use Rattle.mls_model.specs.Completion.{is_completed}
 use Rattle.mls_model.specs.Outcomes.{counts, total_count}
 use Rattle.mls_model.specs.Standing.{Table, rank_table}
 use Rattle.mls_ckpt.specs.declared.faults.RecoverFault.{RecoverFault}
 use Rattle.mls_ckpt.specs.declared.faults.RecoverFault.TheVariants as recovers
-use Rattle.mls_ckpt.specs.Reading.{Cursor, Read, Refusal, Refuses, AreBytes}
+use Rattle.mls_ckpt.specs.Reading.{Read, Refusal, Refuses, AreBytes}
 use Rattle.mls_ckpt.specs.States.{State, PendingKey, marks_of_planes, IsState}
 use Rattle.mls_ckpt.specs.States as states
-use Rattle.mls_ckpt.specs.Spellings.{is_read, spelled_state}
+use Rattle.mls_ckpt.specs.Spellings.{spelled_state}
 use Rattle.mls_ckpt.specs.Checkpoints.{checkpoint_of}
 use Rattle.mls_ckpt.specs.Histories.{marks_of, pending_of as pending_after, pending_life, pending_samples, state_after, checkpoint}
 use Rattle.mls_ckpt.specs.Laws.{IsReadPart, ReadsParts}
@@ -25,17 +24,17 @@ use Rattle.mls_ckpt.proofs.Numbers.{same_ok}
 use Rattle.mls_ckpt.proofs.WholeStates.{states_read_again, states_are_spelled}
 use Rattle.mls_field.specs.declared.fold.RowFold.{Ghosts}
 use Rattle.mls_field.specs.PlaneCounts.{by_plane}
-use Rattle.mls_ledger.specs.MarkSets.{MarkSet, is_marked, marked, plane_counts}
+use Rattle.mls_ledger.specs.MarkSets.{MarkSet, is_marked, marked}
 use Rattle.mls_ledger.specs.MarkRows.{rows_of, AreRows}
 use Rattle.mls_ledger.proofs.Bits.{count_same}
 use Rattle.mls_assembly.specs.Pendings.{Pends}
-use Rattle.mls_assembly.specs.Held.{Held, kept_of, life_of, share_at, ArePending, AreRising}
+use Rattle.mls_assembly.specs.Held.{Held, life_of, share_at, ArePending}
 use Rattle.mls_assembly.specs.Saved.{keys_saved}
-use Rattle.mls_assembly.proofs.SavedKeys.{AreUnmarked, valid_saved, saved_unmarked, same_saved}
+use Rattle.mls_assembly.proofs.SavedKeys.{valid_saved, saved_unmarked, same_saved}
 use Rattle.mls_assembly.proofs.Listed.{pends_saved}
 use Rattle.mls_rank.specs.declared.rank_core.RankCore.{RankCore}
 use Rattle.mls_rank.specs.Cores.{sizes_of, rank_of, counts_of, marks_of as marks_in, has_mark, mark_count, fold_of, pending_of}
-use Rattle.mls_rank.specs.Saving.{state_of, AreKept, SpellsCore, Resumes, GivesBack, RecoversSaved}
+use Rattle.mls_rank.specs.Saving.{state_of, AreKept, SpellsCore, Resumes, RecoversSaved}
 use Rattle.mls_rank.specs.Standing.{KeepsRows, StandsFor}
 use Rattle.mls_rank.specs.Waiting.{AreWaiting}
 use Rattle.mls_rank.proofs.Stepping.{counts_at}

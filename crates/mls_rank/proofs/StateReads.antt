@@ -1,5 +1,5 @@
 -- The parts of a checkpoint, read one after the other, are the state that it spells.
-use Rattle.std.proofs.Common.{◌≡◌, ℕ, ◌+◌, ◌-◌, ◌<◌, ◌≤◌, List, [], ◌∷◌, ◌++◌, length, map, take, get_or, Result, Ok, Err, ⊎_elim, refl, ap, sym, ◌∙◌, subst, arith, length-append}
+use Rattle.std.proofs.Common.{◌≡◌, ℕ, ◌-◌, ◌<◌, ◌≤◌, List, [], ◌∷◌, ◌++◌, length, map, take, Result, Ok, Err, ⊎_elim, refl, ap, sym, ◌∙◌, subst, arith, length-append}
 use Rattle.std.specs.Prelude.{slice_index, count_by, IfErr, false}
 use Rattle.std.specs.Result.{IsErrAnd}
 use Rattle.std.proofs.Math.Seq.{take-append_seam}
@@ -10,7 +10,7 @@ use Rattle.mls_model.specs.Numbers.{below}
 use Rattle.mls_model.specs.Studies.{Sizes, planes}
 use Rattle.mls_ckpt.specs.declared.faults.RecoverFault.{RecoverFault}
 use Rattle.mls_ckpt.specs.declared.faults.RecoverFault.TheVariants as recovers
-use Rattle.mls_ckpt.specs.Reading.{Cursor, Read, Refusal, Refuses, end_at}
+use Rattle.mls_ckpt.specs.Reading.{Cursor, Read, Refuses, end_at}
 use Rattle.mls_ckpt.specs.States.{State, PendingKey, marks_of_planes}
 use Rattle.mls_ckpt.specs.States as states
 use Rattle.mls_ckpt.specs.Checkpoints.{head_at, counts_at, marks_at, pending_at, checkpoint_of}

@@ -1,6 +1,6 @@
 //! The head and the counts of a checkpoint, as they are read.
 
-ghost use Rattle.std.specs.Prelude.{◌≡◌, ℕ, ◌<◌, ◌≤◌, IfOk};
+ghost use Rattle.std.specs.Prelude.{◌≡◌, ℕ, ◌<◌, ◌≤◌, ◌++◌, IfOk};
 ghost use Rattle.std.specs.Int.{w8, w16, w32, w64};
 ghost use Rattle.mls_model.specs.declared.outcomes.Counts.{Counts as CountsValue};
 ghost use Rattle.mls_ckpt.specs.declared.faults.RecoverFault.TheVariants.{Bad as BadFault};
@@ -11,7 +11,7 @@ ghost use Rattle.mls_ckpt.specs.Recovering.{Gives, RecoversNumber};
 ghost use Rattle.mls_ckpt.specs.Spellings.{is_read, samples_byte, fields_number, threshold_numbers, head_numbers};
 ghost use Rattle.mls_rank.specs.Heads.{sizes_numbers, mesh_numbers, Passes, Finishes};
 
-use crate::saving::MAGIC;
+use crate::saving::{MAGIC, samples_number};
 use mls_base::shape::Shape;
 use mls_ckpt::{CkptWhy, RecoverFault, Take};
 use mls_model::outcomes::Counts;
@@ -102,7 +102,7 @@ fn take_samples(shape: &Shape, version: u16, from: &mut Take<'_>) -> Result<(), 
     if version == 1 {
         return Ok(());
     }
-    fixed_u8(from, if shape.signed() { 1 } else { 0 }, CkptWhy::Shape)
+    fixed_u8(from, samples_number(shape), CkptWhy::Shape)
 }
 
 // Takes the number of fields, which versions 1 and 2 lack.
@@ -191,11 +191,7 @@ fn is_read(shape: &Shape, version: u16) -> bool
 
 /// Takes the head of a study and a rank, and gives its version.
 #[tactic(auto, unfolding(mls_ckpt::specs::Checkpoints::head_at))]
-pub(crate) fn take_head(
-    shape: &Shape,
-    rank: u32,
-    from: &mut Take<'_>,
-) -> Result<u16, RecoverFault>
+pub(crate) fn take_head(shape: &Shape, rank: u32, from: &mut Take<'_>) -> Result<u16, RecoverFault>
     ensures { Gives (λ (n : ℕ). n) (cursor_of from.new) result (head_at shape.now rank (cursor_of from.old)) }
 {
     fixed_u32(from, MAGIC, CkptWhy::Magic)?;

@@ -1,8 +1,9 @@
 //! The head and the counts of a checkpoint, as they are written.
 
-ghost use Rattle.std.specs.Prelude.{◌≡◌, ◌<◌, ◌++◌, [], OnOk};
+ghost use Rattle.std.specs.Prelude.{◌≡◌, ◌<◌, ◌++◌, [], cond, OnOk};
 ghost use Rattle.mls_ckpt.specs.Reading.{texts};
 ghost use Rattle.mls_ckpt.specs.Spellings.{head_text, counts_text, sized_text, threshold_numbers};
+ghost use Rattle.mls_rank.specs.Heads.{sizes_numbers};
 
 use mls_base::faults::NoMemory;
 use mls_base::shape::Shape;
@@ -26,6 +27,25 @@ fn put_thresholds(shape: &Shape, out: &mut Put) -> Result<(), NoMemory>
     Ok(())
 }
 
+// Appends the numbers from that of groups on.
+fn put_sizes(shape: &Shape, rank: u32, out: &mut Put) -> Result<(), NoMemory>
+    ensures { OnOk result (out.new ≡ out.old ++ texts sized_text (sizes_numbers shape.now rank) []) }
+{
+    out.put_u32(shape.groups())?;
+    out.put_u32(shape.parameters())?;
+    out.put_u32(shape.ranks())?;
+    out.put_u32(shape.clients())?;
+    out.put_u32(rank)?;
+    put_thresholds(shape, out)
+}
+
+/// The byte of samples: 0 for unsigned ones, 1 for signed ones.
+pub(crate) fn samples_number(shape: &Shape) -> u8
+    ensures { result ≡ cond shape.now.signed 1 0 }
+{
+    if shape.signed() { 1 } else { 0 }
+}
+
 /// Appends the head of a study and a rank, in version 3.
 #[tactic(auto, unfolding(mls_ckpt::specs::Spellings::head_text, mls_ckpt::specs::Spellings::head_numbers))]
 pub(crate) fn put_head(shape: &Shape, rank: u32, out: &mut Put) -> Result<(), NoMemory>
@@ -33,16 +53,11 @@ pub(crate) fn put_head(shape: &Shape, rank: u32, out: &mut Put) -> Result<(), No
 {
     out.put_u32(MAGIC)?;
     out.put_u16(VERSION)?;
-    out.put_u8(if shape.signed() { 1 } else { 0 })?;
+    out.put_u8(samples_number(shape))?;
     out.put_u32(shape.cells())?;
     out.put_u32(shape.steps())?;
     out.put_u32(shape.fields())?;
-    out.put_u32(shape.groups())?;
-    out.put_u32(shape.parameters())?;
-    out.put_u32(shape.ranks())?;
-    out.put_u32(shape.clients())?;
-    out.put_u32(rank)?;
-    put_thresholds(shape, out)
+    put_sizes(shape, rank, out)
 }
 
 /// Appends the eleven counts.

@@ -1,4 +1,4 @@
-use Rattle.std.proofs.Common.{sym, refl, ap, ◌∙◌, subst}
+use Rattle.std.proofs.Common.{arith}
 use Rattle.mls_ckpt.proofs.WholeStates.{states_are_spelled}
 use Rattle.mls_ledger.specs.MarkRows.{rows_of}
 use Rattle.mls_assembly.specs.Saved.{keys_saved}
@@ -56,7 +56,9 @@ invariant_of-result-clause-rows g c = rows_counted c.in_ok-marks.marks c.counts.
 pub invariant_of-result-clause-waiting : goal.invariant_of-result-clause-waiting
 invariant_of-result-clause-waiting g c =
     waiting_read c.in_ok-marks.marks c.in_ok-pending.pending c.args.shape.now c.args.rank c.in_ok-pending.ensures.sizes c.in_ok-pending.ensures.rank c.valid-2.ensures.rows c.valid-3.ensures.pending
-    (states_are_spelled g.F.RowFold.part_at c.part_laws.ensures.takes c.args.shape.now c.args.rank c.args.bytes.now _ c.valid.ensures c.type_inv.bytes (returns-clause-read g c)).valid.pending
+    (states_are_spelled g.F.RowFold.part_at c.part_laws.ensures.takes c.args.shape.now c.args.rank c.args.bytes.now _ c.valid.ensures (λ i. omega (arith, c.type_inv.bytes i)) (
+    state_read g.F.RowFold.part_at c.args.shape.now c.args.rank c.args.bytes.now (g.F.RowFold.part c.in_ok-fold.fold) _ _ _ _ _ _ c.in_ok-take_head.field-0 c.in_ok-counts.counts (rows_of c.in_ok-marks.marks) c.counts.result.now (keys_saved c.in_ok-pending.pending) c.new-from.ensures c.in_ok-take_head.ensures c.in_ok-counts.ensures c.in_ok-marks.ensures.exact
+    (numbers_are c.args.shape.now c.in_ok-marks.marks c.counts.result.now c.valid-2.ensures.rows c.in_ok-marks.ensures.groups c.counts.ensures.all) c.in_ok-fold.ensures.read c.in_ok-fold.ensures.part c.in_ok-pending.ensures.exact c.in_ok-take_end.ensures)).valid.pending
 
 pub returns-clause-kept : goal.returns-clause-kept
 returns-clause-kept g c = record { marks = c.valid-2.ensures.rows; pending = c.valid-3.ensures.pending; rising = c.valid-3.ensures.rising }
