@@ -22,7 +22,7 @@ pub all_entries : (P Q : GroupStep → KeyShares → Type 0) → ((k : GroupStep
 all_entries P Q implies [] each = tt
 all_entries P Q implies (e ∷ es) each = (implies e.0 e.1 each.0, all_entries P Q implies es each.1)
 
-own_place : (g : GroupStep) → is_at (key_cmp g) g ≡ true
+pub own_place : (g : GroupStep) → is_at (key_cmp g) g ≡ true
 own_place g =
     let steps : nat_cmp g.step g.step ≡ Equal = sym (nat_cmp_is g.step g.step Equal refl) in
     let groups : nat_cmp g.group g.group ≡ Equal = sym (nat_cmp_is g.group g.group Equal refl) in
@@ -53,7 +53,7 @@ each_pending held are rising = each_entry (λ k o. IsPending held.sizes held.ran
 
 -- a key's number among those of a study
 
-less_of : (a b : ℕ) → nat_cmp a b ≡ Less → a < b
+pub less_of : (a b : ℕ) → nat_cmp a b ≡ Less → a < b
 less_of a b is = ⊎_elim (λ (less : a < b). less)
     (λ (more : b ≤ a). ⊎_elim
     (λ (same : a ≡ b). absurd (clash_equal (nat_cmp_is a b Equal same ∙ is)))
@@ -78,7 +78,7 @@ before Less y e = inl refl
 before Equal y e = inr (refl, e)
 before Greater y e = absurd cc
 
-equal_of : (a b : ℕ) → nat_cmp a b ≡ Equal → a ≡ b
+pub equal_of : (a b : ℕ) → nat_cmp a b ≡ Equal → a ≡ b
 equal_of a b is = exact_unsigned a b is
 
 number_less : (groups : ℕ) (g h : GroupStep) → g.group < groups → key_cmp g h ≡ Less → number groups g + 1 ≤ number groups h

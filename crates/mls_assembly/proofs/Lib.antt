@@ -10,3 +10,6 @@ pub mod Lending
 pub mod PuttingKeys
 pub mod EntryKeys
 pub mod TakingKeys
+pub mod Counted
+pub mod SavedKeys
+pub mod Listed

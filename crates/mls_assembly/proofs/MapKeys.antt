@@ -1,5 +1,5 @@
 -- Keys in the map of the pending ones.
-use Rattle.std.proofs.Common.{◌≡◌, ℕ, ◌<◌, IsSome, true, false, cond, List, length, Option, Some, None, refl, ap, sym, ◌∙◌, ⊎_elim, subst}
+use Rattle.std.proofs.Common.{◌≡◌, ℕ, ◌^◌, ◌<◌, IsSome, true, false, cond, List, length, Option, Some, None, refl, ap, sym, ◌∙◌, ⊎_elim, subst}
 use Rattle.std.specs.Prelude.{◌==◌}
 use Rattle.std.specs.Ordering.{nat_cmp, ordering_then, is_eq}
 use Rattle.std.specs.declared.cmp.Ordering.{Ordering}
@@ -73,11 +73,12 @@ fits_more s rank client part rest o slots own shares earlier = record {
     share_same a b e = cc
 
 -- what is kept of a key with one client's share, or with one more
-pub pending_more : (s : Sizes) (rank client : ℕ) (key : Key) (part : Share) (rest : ℕ → Option Share) (o : KeyShares) → key.group < s.groups → key.plane < planes s → client < s.clients → length o.shares ≡ s.clients → IsShare s rank client part
+pub pending_more : (s : Sizes) (rank client : ℕ) (key : Key) (part : Share) (rest : ℕ → Option Share) (o : KeyShares) → key.group < s.groups → key.plane < planes s → o.life < 2 ^ 32 → client < s.clients → length o.shares ≡ s.clients → IsShare s rank client part
     → ((c : ℕ) → share_in o c ≡ cond (c == client) (Some part) (rest c)) → ((c : ℕ) (share : Share) → rest c ≡ Some share → IsShare s rank c share) → IsPending s rank key o
-pending_more s rank client key part rest o group plane within slots own shares earlier = record {
+pending_more s rank client key part rest o group plane life within slots own shares earlier = record {
   group = group;
   plane = plane;
+  life = life;
   shares = fits_more s rank client part rest o slots own shares earlier;
   some = (client, within, there (share_in o client) (shares client ∙ ap (λ b. cond b (Some part) (rest client)) (eq-eqb client client refl)));
 }

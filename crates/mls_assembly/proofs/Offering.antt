@@ -1,5 +1,5 @@
 -- What an offer says of the definitions, from what it did to the keys.
-use Rattle.std.proofs.Common.{◌≡◌, ◌≢◌, ℕ, ◌+◌, ◌*◌, ◌<◌, Bool, true, false, cond, List, [], ◌∷◌, ◌++◌, map, Option, Some, None, refl, ap, sym, ◌∙◌, ⊎_elim, ◌⊎◌, inl, inr, subst, IsSome}
+use Rattle.std.proofs.Common.{◌≡◌, ◌≢◌, ℕ, zero, suc, ◌+◌, ◌*◌, ◌^◌, ◌<◌, arith, Bool, true, false, cond, List, [], ◌∷◌, ◌++◌, map, Option, Some, None, refl, ap, sym, ◌∙◌, ⊎_elim, ◌⊎◌, inl, inr, subst, IsSome}
 use Rattle.std.specs.Prelude.{◌==◌, IfSome, is_some, slice_index}
 use Rattle.std.specs.Option.{option_map}
 use Rattle.std.specs.List.{AllByRecursion}
@@ -25,9 +25,14 @@ use Rattle.mls_assembly.proofs.Storing.{Stored, with_share, stored_first, stored
 use Rattle.mls_assembly.proofs.Alone.{stored_alone}
 use Rattle.mls_assembly.proofs.Rows.{row_is, own_row}
 
+small_each : (xs : List ℕ) → AllByRecursion (λ x. x < 2 ^ 16) xs → (i : ℕ) → slice_index xs i < 65536
+small_each [] each i = omega arith
+small_each (x ∷ xs) each zero = let small : x < 2 ^ 16 = each.0 in let fits : x < 65536 = omega arith in fits
+small_each (x ∷ xs) each (suc i) = small_each xs each.1 i
+
 -- what a fitting piece brings is its client's share
 pub fits_share : (s : Sizes) (rank : ℕ) (p : Piece) → IsPiece p → Fits s rank p → IsShare s rank p.client (share_of p)
-fits_share s rank p is fit = record { some = fit.some; first = fit.first; count = fit.count; size = is.size ∙ ap (λ (n : ℕ). n * p.count) fit.rows }
+fits_share s rank p is fit = record { some = fit.some; first = fit.first; count = fit.count; size = is.size ∙ ap (λ (n : ℕ). n * p.count) fit.rows; fits = small_each p.samples is.samples }
 
 pub held_some : (held : Held) (key : Key) (life : ℕ) → life_of held key ≡ Some life → IsSome (kept_of held key)
 held_some held key life h = some_from (kept_of held key) h

@@ -1,12 +1,12 @@
 -- The loops that take pending keys, with their pieces and samples.
-use Rattle.std.proofs.Common.{◌≡◌, ℕ, zero, suc, ◌+◌, ◌-◌, ◌*◌, ◌<◌, ◌≤◌, true, false, Bool, List, [], ◌∷◌, ◌++◌, length, map, get_or, set, Option, Some, None, ◌⊎◌, inl, inr, Result, Ok, Err, refl, ap, sym, ◌∙◌, subst, ⊎_elim, arith, append_assoc}
-use Rattle.std.specs.Int.{w16, w32}
+use Rattle.std.proofs.Common.{◌≡◌, ℕ, zero, suc, ◌+◌, ◌-◌, ◌*◌, ◌^◌, ◌<◌, ◌≤◌, true, false, Bool, List, [], ◌∷◌, ◌++◌, length, map, get_or, set, Option, Some, None, ◌⊎◌, inl, inr, Result, Ok, Err, refl, ap, sym, ◌∙◌, subst, ⊎_elim, arith, append_assoc}
+use Rattle.std.specs.Int.{Width, byte_len, w16, w32}
 use Rattle.std.proofs.lemmas.List.{map-append}
 use Rattle.std.specs.Result.{IsErrAnd}
 use Rattle.std.proofs.Math.ListN.{length-set}
 use Rattle.std.proofs.Common.{◌≢◌, get_or-set_same, get_or-set_other}
 use Rattle.std.proofs.lemmas.Bool.{cases_eq, lt-ltb, ltb-true, eqb-true, and_parts}
-use Rattle.std.specs.Prelude.{not, ◌==◌, ◌&&◌, ◌||◌, nat_lt, nat_le, IsSome}
+use Rattle.std.specs.Prelude.{slice_index, not, ◌==◌, ◌&&◌, ◌||◌, nat_lt, nat_le, IsSome}
 use Rattle.std.specs.Ordering.{nat_cmp, ordering_then, match_ordering}
 use Rattle.std.specs.declared.cmp.Ordering.TheVariants.{Equal, Greater}
 use Rattle.std.specs.Cmp.{nat_cmp_is}
@@ -20,7 +20,9 @@ use Rattle.mls_ckpt.specs.declared.faults.RecoverFault.{RecoverFault}
 use Rattle.mls_ckpt.specs.Checkpoints.{share_at}
 use Rattle.mls_ckpt.specs.Checkpoints as checkpoints
 use Rattle.mls_ckpt.proofs.Passing.{le_of}
-use Rattle.mls_ckpt.specs.Reading.{Cursor, Read, ◌>>=◌, Refuses, number_at, many}
+use Rattle.mls_ckpt.specs.Reading.{Cursor, Read, ◌>>=◌, Refuses, front, behind, number_at, many, AllFrom}
+use Rattle.mls_ckpt.proofs.Numbers.{chosen, same_ok}
+use Rattle.std.proofs.lemmas.Bool.Decides.{nat_tests}
 use Rattle.mls_ckpt.specs.Recovering.{behind_these, Gives}
 use Rattle.mls_ckpt.specs.States.{PendingShare, PendingKey, after_one, client_after, key_after, first_key, is_from}
 use Rattle.mls_ckpt.proofs.Loops.{loop_goes_on, loop_ends, loop_refuses, behind_none, many_valid}
@@ -133,11 +135,26 @@ pieces_end s rank count place least o from whole past so_far = loop_ends (share_
 pub are_shares : (s : Sizes) (rank least left : ℕ) (o : KeyShares) (from : Cursor) (whole : Read (List PendingShare × Cursor)) → IsTaken s rank o least left from whole → AreShares s rank o
 are_shares s rank least left o from whole taken = record { slots = taken.slots; shares = taken.shares }
 
+-- a number that was read is at most what it may be
+number_few : (w : Width) (most : ℕ) (c : Cursor) (r : ℕ × Cursor) → number_at w most c ≡ Ok r → r.0 ≤ most
+unfolding number_at
+number_few w most c r e =
+    let outer = chosen (nat_lt (length c.left) (byte_len w)) _ _ r e in
+    let inner = chosen (nat_lt most (front w c.left)) _ _ r outer.1 in
+    let within : front w c.left ≤ most = grind (arith, nat_tests, inner.0) in
+    subst (λ (p : ℕ × Cursor). p.0 ≤ most) (same_ok (front w c.left, behind w c) r inner.1) within
+
+small_samples : (xs : List ℕ) (start : ℕ) → AllFrom (λ i x. x ≤ 65535) after_one start xs → (i : ℕ) → slice_index xs i < 65536
+small_samples [] start each i = omega arith
+small_samples (x ∷ xs) start each zero = let small : x ≤ 65535 = each.0 in let fits : x < 65536 = omega arith in fits
+small_samples (x ∷ xs) start each (suc i) = small_samples xs (start + 1) each.1 i
+
 -- a share that was taken is its client's
 pub share_valid : (s : Sizes) (rank least client clients parameters : ℕ) (span : Span) (samples : List ℕ) (share : Share) (old new : Cursor) → clients ≡ s.clients → 1 ≤ s.clients → client ≤ clients - 1 → least ≤ client → span ≡ overlap s rank client → span.first < span.end → parameters ≡ s.parameters
     → many next_sample after_one ((parameters + 2) * (span.end - span.first)) 0 old ≡ Ok (samples, new) → share ≡ record { first = span.first; count = span.end - span.first; samples = samples } → IsShareTaken s rank least (client, share)
 share_valid s rank least client clients parameters span samples share old new c some few rises is fits p read made =
-    let size = (many_valid (λ i x. Unit {0}) next_sample after_one (λ i c r e. tt) ((parameters + 2) * (span.end - span.first)) 0 old (samples, new) read).0 in
+    let all = many_valid (λ i x. x ≤ 65535) next_sample after_one (λ i c r e. number_few w16 65535 c r e) ((parameters + 2) * (span.end - span.first)) 0 old (samples, new) read in
+    let size = all.0 in
     let own : width (overlap s rank client) ≡ span.end - span.first = ap width (sym is) in
     record {
       rises = rises;
@@ -148,6 +165,7 @@ share_valid s rank least client clients parameters span samples share old new c 
             first = ap (λ (x : Span). x.first) is;
             count = sym own;
             size = size ∙ ap (λ n. (n + 2) * (span.end - span.first)) p;
+            fits = small_samples samples 0 all.1;
           });
     }
   where
@@ -161,15 +179,16 @@ some_slot first [] some = absurd (omega arith)
 some_slot first (None ∷ slots) some = let rest = some_slot (first + 1) slots some in (suc rest.0, (let here = rest.1 in omega arith), rest.2)
 some_slot first (Some share ∷ slots) some = (0, omega arith, search)
 
-pub key_valid : (s : Sizes) (rank group plane groups count_planes count life : ℕ) (o : KeyShares) (old new : Cursor) → group ≤ groups - 1 → groups ≡ s.groups → 1 ≤ s.groups → plane ≤ count_planes - 1 → count_planes ≡ planes s → 1 ≤ s.steps → 1 ≤ s.fields → 1 ≤ count
+pub key_valid : (s : Sizes) (rank group plane groups count_planes count life : ℕ) (o : KeyShares) (old new : Cursor) → group ≤ groups - 1 → groups ≡ s.groups → 1 ≤ s.groups → plane ≤ count_planes - 1 → count_planes ≡ planes s → 1 ≤ s.steps → 1 ≤ s.fields → 1 ≤ count → o.life < 2 ^ 32
     → AreShares s rank o → many (share_at s rank) client_after count 0 old ≡ Ok (shares_from 0 o.shares, new) → IsPending s rank (record { group = group; plane = plane }) o
-key_valid s rank group plane groups count_planes count life o old new g g_is g_some p p_is steps fields some shares read =
+key_valid s rank group plane groups count_planes count life o old new g g_is g_some p p_is steps fields some life_in shares read =
     let size = (many_valid (λ i x. Unit {0}) (share_at s rank) client_after (λ i c r e. tt) count 0 old (shares_from 0 o.shares, new) read).0 in
     let all : 1 * 1 ≤ s.steps * s.fields = mul-le-mul steps fields in
     let slot = some_slot 0 o.shares (omega arith) in
     record {
       group = omega arith;
       plane = omega arith;
+      life = life_in;
       shares = shares;
       some = (slot.0, (let here = slot.1 in let slots = shares.slots in omega arith), slot.2);
     }

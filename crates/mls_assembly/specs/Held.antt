@@ -1,5 +1,5 @@
 -- What clauses see of the pending pieces: a list of the keys that have some, each with its life and shares.
-use Rattle.std.specs.Prelude.{◌≡◌, ℕ, ◌<◌, true, List, Option, Some, None, IsSome}
+use Rattle.std.specs.Prelude.{◌≡◌, ℕ, ◌^◌, ◌<◌, true, List, Option, Some, None, IsSome}
 use Rattle.std.specs.List.Sorted.{IsStrictlySortedBy}
 use Rattle.std.specs.Ordering.{nat_cmp, ordering_then}
 use Rattle.std.specs.declared.cmp.Ordering.{Ordering}
@@ -41,10 +41,11 @@ life_of held key = option_map (λ o. o.life) (kept_of held key)
 abbrev pub share_at : Held → Key → ℕ → Option Share
 share_at held key client = elim (kept_of held key) [ None ↦ None | Some o ↦ share_in o client ]
 
--- The study has the key, some client has a share of it, and each share is of the cells of the block that its client sends.
+-- The study has the key, its life has 32 bits, some client has a share of it, and each share is of the cells of the block that its client sends.
 pub record IsPending (s : Sizes) (rank : ℕ) (key : Key) (o : KeyShares) : Type 0 where
   pub group : key.group < s.groups
   pub plane : key.plane < planes s
+  pub life : o.life < 2 ^ 32
   pub shares : AreShares s rank o
   pub some : (client : ℕ) × (client < s.clients) × IsSome (share_in o client)
 

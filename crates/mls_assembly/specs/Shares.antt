@@ -1,5 +1,5 @@
 -- A client's share of a key: what is kept of the piece that brought it.
-use Rattle.std.specs.Prelude.{◌≡◌, ℕ, ◌+◌, ◌-◌, ◌*◌, Bool, true, not, ◌||◌, List, length, slice_index, Option, Some, None, is_some}
+use Rattle.std.specs.Prelude.{◌≡◌, ℕ, ◌+◌, ◌-◌, ◌*◌, ◌<◌, Bool, true, not, ◌||◌, List, length, slice_index, Option, Some, None, is_some}
 use Rattle.std.specs.List.{list_all}
 use Rattle.mls_model.specs.Numbers.{below}
 use Rattle.mls_model.specs.Studies.{Sizes}
@@ -15,12 +15,13 @@ pub record Share : Type 0 where
 abbrev pub share_of : Piece → Share
 share_of p = record { first = p.first; count = p.count; samples = p.samples }
 
--- the client sends cells of the block, and the share has p + 2 rows of samples for them
+-- the client sends cells of the block, and the share has p + 2 rows of samples of 16 bits for them
 pub record IsShare (s : Sizes) (rank client : ℕ) (share : Share) : Type 0 where
   pub some : overlaps s rank client ≡ true
   pub first : share.first ≡ (overlap s rank client).first
   pub count : share.count ≡ width (overlap s rank client)
   pub size : length share.samples ≡ (s.parameters + 2) * share.count
+  pub fits : (i : ℕ) → slice_index share.samples i < 65536
 
 -- the sample of a row and a cell in a share, and 0 where there is none
 abbrev pub share_sample : Option Share → ℕ → ℕ → ℕ

@@ -88,7 +88,7 @@ pub trait RowFold: Sized + Drop {
         requires few { (plane : ℕ) → slice_index counts.now plane ≤ shape.now.groups }
         ensures shape { IfOk result (λ f. shape_of f ≡ shape.now) }
         ensures rank { IfOk result (λ f. rank_of f ≡ rank) }
-        ensures counted { IfOk result (λ f. (plane : ℕ) → plane < planes shape.now →
+        ensures counted { IfOk result (λ f. (plane : ℕ) →
             row_count f plane ≡ slice_index counts.now plane) }
         ensures read { OnOk result
             (part_at shape.now rank counts.now (cursor_of from.old) ≡ Ok (cursor_of from.new)) }

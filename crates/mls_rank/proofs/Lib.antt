@@ -3,3 +3,7 @@ pub mod Stepping
 pub mod Waiting
 pub mod Unmarked
 pub mod Folds
+pub mod HeadTexts
+pub mod HeadReads
+pub mod StateReads
+pub mod SavedCores

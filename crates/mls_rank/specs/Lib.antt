@@ -1,4 +1,6 @@
 pub mod Counting
 pub mod Cores
 pub mod Standing
+pub mod Heads
+pub mod Saving
 pub mod Waiting

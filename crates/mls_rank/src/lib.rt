@@ -3,6 +3,8 @@
 
 mod counting;
 pub mod rank_core;
+mod recovering;
+mod saving;
 
 pub use mls_model::lanes::LaneKind;
 pub use mls_model::outcomes::{Counts, Outcome, Reason};

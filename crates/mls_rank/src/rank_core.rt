@@ -1,6 +1,6 @@
 //! The state of one rank.
 
-ghost use Rattle.std.specs.Prelude.{◌≡◌, ◌≢◌, ◌<◌, ◌≤◌, ◌+◌, ◌-◌, ◌^◌, ◌==◌, ◌||◌, ◌&&◌, ℕ, List, [], ◌∷◌, ◌++◌, true, false, IfOk, OnOk, OnErr, IsSome};
+ghost use Rattle.std.specs.Prelude.{◌≡◌, ◌≢◌, ◌<◌, ◌≤◌, ◌+◌, ◌-◌, ◌^◌, ◌==◌, ◌||◌, ◌&&◌, ℕ, List, [], ◌∷◌, ◌++◌, true, false, Ok, IfOk, IfErr, OnOk, OnErr, IsSome};
 ghost use Rattle.std.specs.Option.{option_to_list};
 ghost use Rattle.std.specs.List.{AllByRecursion};
 ghost use Rattle.mls_model.specs.Studies.{AreSizes, planes};
@@ -14,6 +14,10 @@ ghost use Rattle.mls_model.specs.Outcomes.{outcome, piece_outcome};
 ghost use Rattle.mls_model.specs.Fitting.{Fits};
 ghost use Rattle.mls_model.specs.Survival.{before_last_save};
 ghost use Rattle.mls_model.specs.Outcomes.{counted, total_count};
+ghost use Rattle.mls_ckpt.specs.Checkpoints.{checkpoint_of};
+ghost use Rattle.mls_ckpt.specs.Histories.{checkpoint};
+ghost use Rattle.mls_ckpt.specs.Reading.{Refuses};
+ghost use Rattle.mls_ckpt.specs.Spellings.{spelled_state};
 ghost use Rattle.mls_frame.specs.Views.{frame_of, piece_of};
 ghost use Rattle.mls_ledger.specs.MarkSets.{marked};
 ghost use Rattle.mls_assembly.specs.Held.{ArePending, AreRising};
@@ -22,10 +26,13 @@ ghost use Rattle.mls_rank.specs.Waiting.{AreWaiting};
 ghost use Rattle.mls_rank.specs.Counting.{no_counts, is_idle, is_saved, is_crashed, IsUnkept};
 
 use crate::counting::{is_not_counted, no_events, one_more};
+use crate::recovering::{take_counts, take_end, take_head};
+use crate::saving::{put_counts, put_head};
 use mls_assembly::{Assembled, GroupStep, Pending};
 use mls_base::faults::NoMemory;
 use mls_base::rows::Rows;
 use mls_base::shape::Shape;
+use mls_ckpt::{Put, RecoverFault, Take};
 use mls_field::fold::RowFold;
 use mls_frame::{FrameView, PieceView};
 use mls_ledger::Marks;
@@ -57,6 +64,7 @@ pub struct RankCore<F: RowFold> {
 
 impl<F: RowFold> RankCore<F> {
     ghost use Rattle.mls_rank.specs.Cores.{sizes_of, rank_of, counts_of, marks_of, has_mark, mark_count, fold_of, pending_of, AreMarks, SameRows, IsSame};
+    ghost use Rattle.mls_rank.specs.Saving.{state_of, AreKept, SpellsCore, RecoversSaved};
     ghost use Rattle.mls_rank.specs.Standing.{StandsFor, as_event, pieces_of, IsPieceOutcome, IsEventOutcome, KeepsMore, IsOutcome, StandsOn, IsSmall, IsPart};
 
     /// The state before any event.
@@ -347,5 +355,81 @@ impl<F: RowFold> RankCore<F> {
         self.pending.reset();
         self.fold.reset();
         self.counts = no_events();
+    }
+
+    /// Its checkpoint, in version 3. After want of memory nothing of it is left.
+    pub fn save_bytes(&self, alloc: Global) -> Result<Vec<u8>, NoMemory>
+        ensures spelled { IfOk result (λ bytes. bytes.items
+            ≡ spelled_state 3 (sizes_of self.now) (rank_of self.now) (state_of self.now)) }
+        ensures history { IfOk result (λ bytes. (h : List LaneEvent) → StandsFor self.now h
+            → bytes.items ≡ checkpoint F.part_of (sizes_of self.now) (rank_of self.now) h) }
+        ensures spells { IfOk result (λ bytes. total_count (counts_of self.now) ≤ 2 ^ 62
+            → SpellsCore (sizes_of self.now) (rank_of self.now) bytes.items self.now) }
+    {
+        self.marks.valid();
+        self.pending.valid();
+        F::part_laws();
+        let mut out = Put::new(alloc);
+        put_head(&self.shape, self.rank, &mut out)?;
+        put_counts(&self.counts, &mut out)?;
+        self.marks.put(&mut out)?;
+        self.fold.put(&mut out)?;
+        self.pending.put(&mut out)?;
+        Ok(out.finish())
+    }
+
+    // The core that bytes spell.
+    fn read(
+        alloc: Global,
+        shape: &Shape,
+        rank: u32,
+        bytes: &[u8],
+    ) -> Result<RankCore<F>, RecoverFault>
+        requires { rank < shape.now.ranks }
+        ensures sizes { IfOk result (λ core. sizes_of core ≡ shape.now) }
+        ensures rank { IfOk result (λ core. rank_of core ≡ rank) }
+        ensures read { IfOk result (λ core. checkpoint_of F.part_at shape.now rank bytes.now ≡ Ok (state_of core)) }
+        ensures kept { IfOk result (λ core. AreKept core) }
+        ensures fault { IfErr result (λ fault. Refuses fault (checkpoint_of F.part_at shape.now rank bytes.now)) }
+    {
+        F::part_laws();
+        shape.valid();
+        let mut from = Take::new(bytes);
+        take_head(shape, rank, &mut from)?;
+        let counts = take_counts(&mut from)?;
+        let marks = Marks::take(alloc, shape, &mut from)?;
+        marks.valid();
+        let fold = F::take(alloc, shape, rank, marks.counts(), &mut from)?;
+        let pending = Pending::take(alloc, shape, rank, &marks, &mut from)?;
+        pending.valid();
+        take_end(&from)?;
+        Ok(RankCore {
+            shape: *shape,
+            rank,
+            counts,
+            marks,
+            pending,
+            fold,
+        })
+    }
+
+    /// The core whose state a checkpoint of this study and rank spells, in any version that is read for the study. `Bad` exactly where the bytes are none, at the first place that is wrong.
+    pub fn recover(
+        alloc: Global,
+        shape: &Shape,
+        rank: u32,
+        bytes: &[u8],
+    ) -> Result<RankCore<F>, RecoverFault>
+        requires { rank < shape.now.ranks }
+        ensures sizes { IfOk result (λ core. sizes_of core ≡ shape.now) }
+        ensures rank { IfOk result (λ core. rank_of core ≡ rank) }
+        ensures read { IfOk result (λ core. checkpoint_of F.part_at shape.now rank bytes.now ≡ Ok (state_of core)) }
+        ensures few { IfOk result (λ core. total_count (counts_of core) ≤ 2 ^ 62) }
+        ensures fault { IfErr result (λ fault. Refuses fault (checkpoint_of F.part_at shape.now rank bytes.now)) }
+        ensures again { RecoversSaved shape.now rank bytes.now result }
+    {
+        F::part_laws();
+        shape.valid();
+        RankCore::read(alloc, shape, rank, bytes)
     }
 }

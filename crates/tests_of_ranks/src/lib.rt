@@ -6,6 +6,8 @@ mod assembly;
 #[cfg(test)]
 mod ledger;
 #[cfg(test)]
+mod parts;
+#[cfg(test)]
 mod rank;
 #[cfg(test)]
 mod saved;

@@ -1,4 +1,4 @@
-use Rattle.std.proofs.Common.{◌≡◌, ℕ, ◌<◌, Some, None, ap, sym, ◌∙◌, subst}
+use Rattle.std.proofs.Common.{◌≡◌, ℕ, ◌<◌, Some, None, ap, sym, ◌∙◌, subst, arith}
 use Rattle.mls_model.specs.Studies.{Sizes, planes}
 use Rattle.mls_assembly.specs.Shares.{IsShare}
 use Rattle.mls_assembly.specs.KeyShares.{KeyShares}
@@ -18,6 +18,7 @@ invariant_of-self-2 c =
     (pending_more c.self.inside.shape c.self.inside.rank c.args.client (key_at c.args.key) c.args.kept (λ client. None) c.in_ok-pieces.pieces
     (subst (λ (z : Sizes). c.args.key.group < z.groups) (sym sizes) c.requires.group)
     (subst (λ (z : Sizes). c.args.key.step < planes z) (sym sizes) c.requires.plane)
+    (omega (arith, c.in_ok-pieces.ensures.life, c.ranges.life.fits))
     (subst (λ (z : Sizes). c.args.client < z.clients) (sym sizes) c.requires.client)
     (c.in_ok-pieces.ensures.slots ∙ c.clients.ensures.value)
     (subst (λ (z : Sizes). IsShare z c.self.inside.rank c.args.client c.args.kept) (sym (ap (λ (h : Held). h.sizes) c.self.view_is))

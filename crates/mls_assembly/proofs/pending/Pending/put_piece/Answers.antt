@@ -44,7 +44,7 @@ invariant_of-self c =
           c.self.invariant
           (λ o at.
           subst (IsPending c.self.inside.shape c.self.inside.rank (key_at c.args.key)) (some_same w.put.new.self o at)
-          (pending_more c.self.inside.shape c.self.inside.rank c.args.client (key_at c.args.key) c.args.kept (share_in w.in-Some.pieces.now) w.put.new.self kept.group kept.plane
+          (pending_more c.self.inside.shape c.self.inside.rank c.args.client (key_at c.args.key) c.args.kept (share_in w.in-Some.pieces.now) w.put.new.self kept.group kept.plane (let life = kept.life in omega (arith, w.put.ensures.life))
           (subst (λ (z : Sizes). c.args.client < z.clients) (sym (ap (λ (h : Held). h.sizes) c.self.view_is)) c.requires.client)
           (w.put.ensures.slots ∙ kept.shares.slots)
           (subst (λ (z : Sizes). IsShare z c.self.inside.rank c.args.client c.args.kept) (sym (ap (λ (h : Held). h.sizes) c.self.view_is))
