@@ -8,6 +8,8 @@ use Rattle.mls_model.specs.Outcomes.{total_count}
 use Rattle.mls_field.specs.declared.fold.RowFold.{Ghosts}
 use Rattle.mls_rank.specs.declared.rank_core.RankCore.{RankCore}
 use Rattle.mls_rank.specs.Cores.{sizes_of, rank_of, counts_of}
+use Rattle.mls_rank.specs.Counting.{no_counts}
+use Rattle.mls_rank.specs.Saving.{SpellsCore}
 use Rattle.mls_book.specs.declared.faults.BookFault.{BookFault}
 use Rattle.mls_book.specs.declared.faults.BookFault.TheVariants.{KeeperFault, CheckpointBad, Memory}
 use Rattle.mls_book.specs.Faults.{IfBad}
@@ -31,6 +33,21 @@ kept_more F T s rank most most' (Some (Some bytes)) le h = more s rank most most
 opens_more : (F : Type 0) (T : Ghosts F) (s : Sizes) (rank most most' : ℕ) (opening : Option (List ℕ)) → most ≤ most' → IfSome opening (SpellsFew F T s rank most) → IfSome opening (SpellsFew F T s rank most')
 opens_more F T s rank most most' None le h = tt
 opens_more F T s rank most most' (Some bytes) le h = more s rank most most' bytes le h
+
+-- at the beginning
+pub few_none_yet : {F : Type 0} {T : Ghosts F} (core : RankCore F T) (held : Option (Option (List ℕ))) → counts_of core ≡ no_counts → IsFew core held false None 0
+few_none_yet core held none = record {
+  few = λ _. subst (λ c. total_count c ≤ 0) (sym none) (omega arith);
+  back = λ had. absurd (true≢false (sym had));
+  opens = λ _. tt;
+}
+
+pub few_opened : {F : Type 0} {T : Ghosts F} (core : RankCore F T) (held : Option (Option (List ℕ))) (bytes : List ℕ) → SpellsCore (sizes_of core) (rank_of core) bytes core → IsFew core held false (Some bytes) (total_count (counts_of core))
+few_opened core held bytes spells = record {
+  few = λ _. omega arith;
+  back = λ had. absurd (true≢false (sym had));
+  opens = λ _. record { core = core; spells = spells; fewer = omega arith };
+}
 
 -- an event that is not taken, or is no save
 pub few_more : {F : Type 0} {T : Ghosts F} (core core' : RankCore F T) (held held' : Option (Option (List ℕ))) (saved : Bool) (opening : Option (List ℕ)) (most most' : ℕ)

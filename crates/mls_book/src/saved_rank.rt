@@ -96,7 +96,7 @@ pub struct SavedRank<F: RowFold, K: Keeper + Drop> {
 impl<F: RowFold, K: Keeper + Drop> SavedRank<F, K> {
     ghost use Rattle.mls_book.specs.SavedRanks.{core_of, study_of, number_of, total_of, saved_of, opening_of};
     ghost use Rattle.mls_book.specs.SavedRanks.{keeper_of, held_of, faults_of, gets_of, last_of, sound_of, reads_keeper, calls_keeper};
-    ghost use Rattle.mls_book.specs.SavedRanks.{IsGiven, IsRefused, IsUnspelled, CarriesHistory, CarriesMore};
+    ghost use Rattle.mls_book.specs.SavedRanks.{IsGiven, IsRefused, IsUnspelled, CarriesHistory, CarriesMore, CountsFew};
 
     /// The state before any event. This run had no save, and the keeper isn't called.
     pub fn new(
@@ -113,6 +113,7 @@ impl<F: RowFold, K: Keeper + Drop> SavedRank<F, K> {
         ensures saved { IfOk result (λ x. saved_of x ≡ false) }
         ensures opening { IfOk result (λ x. opening_of x ≡ None) }
         ensures carries { IfOk result (λ x. CarriesHistory x [] []) }
+        ensures few { IfOk result (λ x. CountsFew x 0) }
         ensures refused { IfErr result (λ refused. refused.keeper ≡ keeper) }
     {
         match RankCore::new(alloc, shape, rank) {
@@ -139,6 +140,7 @@ impl<F: RowFold, K: Keeper + Drop> SavedRank<F, K> {
         ensures opening { opening_of result ≡ Some opening.items }
         ensures carries { SpellsCore (sizes_of core) (rank_of core) opening.items core → (whole : List LaneEvent)
             → StandsFor core (before_last_save whole) → StandsFor core whole → CarriesHistory result whole [] }
+        ensures few { SpellsCore (sizes_of core) (rank_of core) opening.items core → CountsFew result (total_count (counts_of core)) }
     {
         SavedRank {
             core,
@@ -183,6 +185,7 @@ impl<F: RowFold, K: Keeper + Drop> SavedRank<F, K> {
         ensures outcome { IfOk result (λ o. IsOutcome (core_of self.old) (as_event kind (frame_of view.now)) o) }
         ensures stands { OnOk result (StandsOn (core_of self.old) (core_of self.new) (as_event kind (frame_of view.now))) }
         ensures err { OnErr result ((h : List LaneEvent) → StandsFor (core_of self.old) h → StandsFor (core_of self.new) h) }
+        ensures counts { OnErr result (counts_of (core_of self.new) ≡ counts_of (core_of self.old)) }
         ensures fault { IfErr result (λ fault. fault ≡ Memory) }
         ensures sizes { study_of self.new ≡ study_of self.old }
         ensures rank { number_of self.new ≡ number_of self.old }
@@ -322,6 +325,10 @@ impl<F: RowFold, K: Keeper + Drop> SavedRank<F, K> {
             → OnOk result (CarriesMore self.new whole run (as_event kind (frame_of view.now))) }
         ensures keeps { (whole run : List LaneEvent) → CarriesHistory self.old whole run → OnErr result (CarriesHistory self.new whole run) }
         ensures untold { (whole run : List LaneEvent) → CarriesHistory self.old whole run → IfErr result (λ fault. IfBad fault (held_of self.old ≡ None)) }
+
+        ensures counts { (most : ℕ) → most ≤ 2 ^ 62 → CountsFew self.old most → OnOk result (CountsFew self.new (most + 1)) }
+        ensures fewer { (most : ℕ) → CountsFew self.old most → OnErr result (CountsFew self.new most) }
+        ensures untold_few { (most : ℕ) → CountsFew self.old most → IfErr result (λ fault. IfBad fault (held_of self.old ≡ None)) }
 
         // What holds of every core.
         ensures stands { OnOk result (StandsOn (core_of self.old) (core_of self.new) (as_event kind (frame_of view.now))) }
