@@ -1,5 +1,5 @@
 -- What an event makes of a history that is carried.
-use Rattle.std.proofs.Common.{◌≡◌, ℕ, ◌+◌, ◌^◌, ◌≤◌, Bool, true, false, ◌||◌, cond, List, [], ◌∷◌, ◌++◌, length, Option, None, Some, arith, refl, ap, sym, ◌∙◌, subst, inl, inr, ⊎_elim}
+use Rattle.std.proofs.Common.{◌≡◌, ℕ, ◌^◌, ◌≤◌, Bool, true, false, ◌||◌, cond, List, [], ◌∷◌, ◌++◌, length, Option, None, Some, arith, refl, ap, sym, ◌∙◌, subst, inl, ⊎_elim}
 use Rattle.std.specs.Prelude.{IsSome, IfSome, IsSomeAnd}
 use Rattle.std.specs.List.{list_any}
 use Rattle.std.proofs.lemmas.Bool.{cases_Bool, or_left, or_right, true≢false}
@@ -7,7 +7,7 @@ use Rattle.std.proofs.lemmas.List.Folds.{list_any-append}
 use Rattle.mls_base.specs.Told.{MayCease, replaced}
 use Rattle.mls_model.specs.Studies.{Sizes}
 use Rattle.mls_model.specs.Histories.{LaneEvent}
-use Rattle.mls_model.specs.Survival.{is_save, is_crash, surviving, last_save, before_last_save}
+use Rattle.mls_model.specs.Survival.{is_save, is_crash, last_save, before_last_save}
 use Rattle.mls_model.specs.Outcomes.{total_count}
 use Rattle.mls_ckpt.specs.Histories.{checkpoint}
 use Rattle.mls_laws.proofs.Surviving.{save_no_crash, before_last_save_more}
@@ -22,7 +22,7 @@ use Rattle.mls_book.specs.declared.faults.BookFault.TheVariants.{KeeperFault, Ch
 use Rattle.mls_book.specs.Faults.{IfBad}
 use Rattle.mls_book.specs.Backups.{written_of, IsCheckpoint, IsSpelled, Begins, GoesBack, HoldsNone}
 use Rattle.mls_book.specs.Histories.{Sure, Saves, Opens, Carries}
-use Rattle.mls_book.proofs.Telling.{same_may, some_before, told_before, some_replaced, told_put, sure_before, sure_same, sure_told}
+use Rattle.mls_book.proofs.Telling.{told_before, some_replaced, told_put, sure_before, sure_same, sure_told}
 
 -- a fact on sizes and a rank, at equal ones
 moved : (P : Sizes → ℕ → Type 0) (s s' : Sizes) (r r' : ℕ) → s' ≡ s → r' ≡ r → P s r → P s' r'

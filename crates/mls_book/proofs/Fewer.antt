@@ -1,5 +1,5 @@
 -- How many events a rank counted at most.
-use Rattle.std.proofs.Common.{◌≡◌, ℕ, ◌+◌, ◌^◌, ◌≤◌, Bool, true, false, List, [], Option, None, Some, arith, refl, ap, sym, ◌∙◌, subst}
+use Rattle.std.proofs.Common.{◌≡◌, ℕ, ◌+◌, ◌^◌, ◌≤◌, Bool, true, false, List, Option, None, Some, arith, refl, sym, ◌∙◌, subst}
 use Rattle.std.specs.Prelude.{IsSome, IfSome, IsSomeAnd}
 use Rattle.std.proofs.lemmas.Bool.{true≢false}
 use Rattle.mls_base.specs.Told.{MayCease, replaced}
