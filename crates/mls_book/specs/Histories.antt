@@ -27,7 +27,9 @@ abbrev pub Opens : (F : Type 0) (T : Ghosts F) → Sizes → ℕ → List LaneEv
 Opens F T s rank history None = history ≡ []
 Opens F T s rank history (Some bytes) = Saves F T s rank history bytes
 
--- A core and what its keeper holds carry a whole history, of which the run's own events are the last. Whether the run had a save is kept. A crash goes back to the state before the last save of the whole history: the one that is held where the run had a save, else the one at the beginning.
+-- A core and what its keeper holds carry a whole history, of which the run's own events are the last. Whether the run had
+-- a save is kept. A crash goes back to the state before the last save of the whole history: the one that is held where the
+-- run had a save, else the one at the beginning.
 pub record Carries {F : Type 0} {T : Ghosts F} (core : RankCore F T) (held : Option (Option (List ℕ))) (saved : Bool) (opening : Option (List ℕ)) (whole run : List LaneEvent) : Type 0 where
   pub stands : Sure held run → StandsFor core whole
   pub had : saved ≡ list_any is_save run

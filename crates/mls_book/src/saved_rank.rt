@@ -14,7 +14,7 @@ ghost use Rattle.mls_model.specs.Outcomes.{total_count};
 ghost use Rattle.mls_ckpt.specs.Checkpoints.{checkpoint_of};
 ghost use Rattle.mls_ckpt.specs.Reading.{Refuses};
 ghost use Rattle.mls_frame.specs.Views.{frame_of};
-ghost use Rattle.mls_rank.specs.Cores.{sizes_of, rank_of, counts_of};
+ghost use Rattle.mls_rank.specs.Cores.{sizes_of, rank_of, counts_of, IsSame};
 ghost use Rattle.mls_rank.specs.Counting.{no_counts, is_idle, is_saved, is_crashed};
 ghost use Rattle.mls_rank.specs.Saving.{state_of, SpellsCore, RecoversSaved};
 ghost use Rattle.mls_rank.specs.Standing.{StandsFor, StandsOn, IsOutcome, as_event};
@@ -68,8 +68,10 @@ fn recovered<F: RowFold>(
     ensures rank { IfOk result (λ core. rank_of core ≡ rank) }
     ensures few { IfOk result (λ core. total_count (counts_of core) ≤ 2 ^ 62) }
     ensures again { IfSome given (λ bytes. RecoversSaved shape.now rank bytes.items result) }
-    ensures read { IfOk result (λ core. given_state F.part_at shape.now rank (option_map (λ bytes. bytes.items) given) ≡ Ok (state_of core)) }
-    ensures fault { IfErr result (λ fault. Refuses fault (given_state F.part_at shape.now rank (option_map (λ bytes. bytes.items) given))) }
+    ensures read { IfOk result (λ core.
+        given_state F.part_at shape.now rank (option_map (λ bytes. bytes.items) given) ≡ Ok (state_of core)) }
+    ensures fault { IfErr result (λ fault.
+        Refuses fault (given_state F.part_at shape.now rank (option_map (λ bytes. bytes.items) given))) }
 {
     match given {
         None => {
@@ -95,7 +97,8 @@ pub struct SavedRank<F: RowFold, K: Keeper + Drop> {
 
 impl<F: RowFold, K: Keeper + Drop> SavedRank<F, K> {
     ghost use Rattle.mls_book.specs.SavedRanks.{core_of, study_of, number_of, total_of, saved_of, opening_of};
-    ghost use Rattle.mls_book.specs.SavedRanks.{keeper_of, held_of, faults_of, gets_of, last_of, sound_of, reads_keeper, calls_keeper};
+    ghost use Rattle.mls_book.specs.SavedRanks.{keeper_of, held_of, faults_of, gets_of, last_of, sound_of};
+    ghost use Rattle.mls_book.specs.SavedRanks.{reads_keeper, calls_keeper};
     ghost use Rattle.mls_book.specs.SavedRanks.{IsGiven, IsRefused, IsUnspelled, CarriesHistory, CarriesMore, CountsFew};
 
     /// The state before any event. This run had no save, and the keeper isn't called.
@@ -129,9 +132,8 @@ impl<F: RowFold, K: Keeper + Drop> SavedRank<F, K> {
         }
     }
 
-    /// The state of a core that a checkpoint spells, which a crash before any save of this run goes back to. This run had
-    /// no save, and the keeper isn't called. A core that stands for a history stands for the one that ends with a save
-    /// behind it, so that such a history is carried.
+    /// The state of a core that a checkpoint spells. A crash before any save of this run goes back to it. This run had no
+    /// save, and the keeper isn't called. The history that is carried ends with the save whose checkpoint it is.
     pub fn opened(core: RankCore<F>, opening: Vec<u8>, keeper: K) -> SavedRank<F, K>
         requires { checkpoint_of F.part_at (sizes_of core) (rank_of core) opening.items ≡ Ok (state_of core) }
         ensures core { core_of result ≡ core }
@@ -140,7 +142,8 @@ impl<F: RowFold, K: Keeper + Drop> SavedRank<F, K> {
         ensures opening { opening_of result ≡ Some opening.items }
         ensures carries { SpellsCore (sizes_of core) (rank_of core) opening.items core → (whole : List LaneEvent)
             → StandsFor core (before_last_save whole) → StandsFor core whole → CarriesHistory result whole [] }
-        ensures few { SpellsCore (sizes_of core) (rank_of core) opening.items core → CountsFew result (total_count (counts_of core)) }
+        ensures few { SpellsCore (sizes_of core) (rank_of core) opening.items core
+            → CountsFew result (total_count (counts_of core)) }
     {
         SavedRank {
             core,
@@ -183,9 +186,11 @@ impl<F: RowFold, K: Keeper + Drop> SavedRank<F, K> {
     fn step(&mut self, kind: LaneKind, view: &FrameView<'_>) -> Result<Outcome, BookFault>
         requires room { total_of self.old < 2 ^ 64 - 1 }
         ensures outcome { IfOk result (λ o. IsOutcome (core_of self.old) (as_event kind (frame_of view.now)) o) }
-        ensures stands { OnOk result (StandsOn (core_of self.old) (core_of self.new) (as_event kind (frame_of view.now))) }
-        ensures err { OnErr result ((h : List LaneEvent) → StandsFor (core_of self.old) h → StandsFor (core_of self.new) h) }
-        ensures counts { OnErr result (counts_of (core_of self.new) ≡ counts_of (core_of self.old)) }
+        ensures stands { OnOk result
+            (StandsOn (core_of self.old) (core_of self.new) (as_event kind (frame_of view.now))) }
+        ensures err { OnErr result
+            ((h : List LaneEvent) → StandsFor (core_of self.old) h → StandsFor (core_of self.new) h) }
+        ensures same { OnErr result (IsSame (core_of self.old) (core_of self.new)) }
         ensures fault { IfErr result (λ fault. fault ≡ Memory) }
         ensures sizes { study_of self.new ≡ study_of self.old }
         ensures rank { number_of self.new ≡ number_of self.old }
@@ -213,7 +218,8 @@ impl<F: RowFold, K: Keeper + Drop> SavedRank<F, K> {
         ensures opening { opening_of self.new ≡ opening_of self.old }
         ensures saved { OnOk result (saved_of self.new ≡ true) }
         ensures unsaved { OnErr result (saved_of self.new ≡ saved_of self.old) }
-        ensures put { OnOk result (held_of self.new ≡ replaced (held_of self.old) (Some (written_of (core_of self.old)))) }
+        ensures put { OnOk result
+            (held_of self.new ≡ replaced (held_of self.old) (Some (written_of (core_of self.old)))) }
         ensures written { OnOk result (IsCheckpoint (core_of self.old)) }
         ensures spells { OnOk result (IsSpelled (core_of self.old)) }
         ensures held { IfErr result (λ fault. GetLeaves fault (held_of self.old) (held_of self.new)) }
@@ -240,7 +246,8 @@ impl<F: RowFold, K: Keeper + Drop> SavedRank<F, K> {
     fn reopen(&mut self, alloc: Global) -> Result<(), NoMemory>
         ensures sizes { study_of self.new ≡ study_of self.old }
         ensures rank { number_of self.new ≡ number_of self.old }
-        ensures begins { OnOk result (Begins (study_of self.old) (number_of self.old) (opening_of self.old) (core_of self.new)) }
+        ensures begins { OnOk result
+            (Begins (study_of self.old) (number_of self.old) (opening_of self.old) (core_of self.new)) }
         ensures few { OnOk result (total_of self.new ≤ 2 ^ 62) }
         ensures err { OnErr result (core_of self.new ≡ core_of self.old) }
         ensures keeper { keeper_of self.new ≡ keeper_of self.old }
@@ -270,7 +277,8 @@ impl<F: RowFold, K: Keeper + Drop> SavedRank<F, K> {
         ensures sizes { study_of self.new ≡ study_of self.old }
         ensures rank { number_of self.new ≡ number_of self.old }
         ensures few { OnOk result (total_of self.new ≤ 2 ^ 62) }
-        ensures back { OnOk result (GoesBack (study_of self.old) (number_of self.old) (held_of self.old) (core_of self.new)) }
+        ensures back { OnOk result
+            (GoesBack (study_of self.old) (number_of self.old) (held_of self.old) (core_of self.new)) }
         ensures err { OnErr result (core_of self.new ≡ core_of self.old) }
         ensures saved { saved_of self.new ≡ saved_of self.old }
         ensures opening { opening_of self.new ≡ opening_of self.old }
@@ -323,38 +331,55 @@ impl<F: RowFold, K: Keeper + Drop> SavedRank<F, K> {
         ensures outcome { IfOk result (λ o. IsOutcome (core_of self.old) (as_event kind (frame_of view.now)) o) }
         ensures carries { (whole run : List LaneEvent) → length whole ≤ 2 ^ 62 → CarriesHistory self.old whole run
             → OnOk result (CarriesMore self.new whole run (as_event kind (frame_of view.now))) }
-        ensures keeps { (whole run : List LaneEvent) → CarriesHistory self.old whole run → OnErr result (CarriesHistory self.new whole run) }
-        ensures untold { (whole run : List LaneEvent) → CarriesHistory self.old whole run → IfErr result (λ fault. IfBad fault (held_of self.old ≡ None)) }
+        ensures keeps { (whole run : List LaneEvent) → CarriesHistory self.old whole run
+            → OnErr result (CarriesHistory self.new whole run) }
+        ensures untold { (whole run : List LaneEvent) → CarriesHistory self.old whole run
+            → IfErr result (λ fault. IfBad fault (held_of self.old ≡ None)) }
 
-        ensures counts { (most : ℕ) → most ≤ 2 ^ 62 → CountsFew self.old most → OnOk result (CountsFew self.new (most + 1)) }
+        ensures counts { (most : ℕ) → most ≤ 2 ^ 62 → CountsFew self.old most
+            → OnOk result (CountsFew self.new (most + 1)) }
         ensures fewer { (most : ℕ) → CountsFew self.old most → OnErr result (CountsFew self.new most) }
-        ensures untold_few { (most : ℕ) → CountsFew self.old most → IfErr result (λ fault. IfBad fault (held_of self.old ≡ None)) }
+        ensures untold_few { (most : ℕ) → CountsFew self.old most
+            → IfErr result (λ fault. IfBad fault (held_of self.old ≡ None)) }
 
         // What holds of every core.
-        ensures stands { OnOk result (StandsOn (core_of self.old) (core_of self.new) (as_event kind (frame_of view.now))) }
-        ensures err { OnErr result ((h : List LaneEvent) → StandsFor (core_of self.old) h → StandsFor (core_of self.new) h) }
+        ensures stands { OnOk result
+            (StandsOn (core_of self.old) (core_of self.new) (as_event kind (frame_of view.now))) }
+        ensures err { OnErr result
+            ((h : List LaneEvent) → StandsFor (core_of self.old) h → StandsFor (core_of self.new) h) }
+        ensures same { OnErr result (IsSame (core_of self.old) (core_of self.new)) }
         ensures sizes { study_of self.new ≡ study_of self.old }
         ensures rank { number_of self.new ≡ number_of self.old }
         ensures sum { total_of self.new ≤ max (2 ^ 62) (total_of self.old + 1) }
-        ensures saved { OnOk result (saved_of self.new ≡ (saved_of self.old || is_save (as_event kind (frame_of view.now)))) }
+        ensures saved { OnOk result
+            (saved_of self.new ≡ (saved_of self.old || is_save (as_event kind (frame_of view.now)))) }
         ensures unsaved { OnErr result (saved_of self.new ≡ saved_of self.old) }
         ensures opening { opening_of self.new ≡ opening_of self.old }
+        ensures reopens { is_crash (as_event kind (frame_of view.now)) ≡ true → saved_of self.old ≡ false → OnOk result
+            (Begins (study_of self.old) (number_of self.old) (opening_of self.old) (core_of self.new)) }
+        ensures goes_back { reads_keeper (saved_of self.old) (as_event kind (frame_of view.now)) ≡ true → OnOk result
+            (GoesBack (study_of self.old) (number_of self.old) (held_of self.old) (core_of self.new)) }
 
         // What is asked of the keeper, and what it then holds.
-        ensures untouched { calls_keeper (saved_of self.old) (as_event kind (frame_of view.now)) ≡ false → keeper_of self.new ≡ keeper_of self.old }
+        ensures untouched { calls_keeper (saved_of self.old) (as_event kind (frame_of view.now)) ≡ false
+            → keeper_of self.new ≡ keeper_of self.old }
         ensures put { is_save (as_event kind (frame_of view.now)) ≡ true
             → OnOk result (held_of self.new ≡ replaced (held_of self.old) (Some (written_of (core_of self.new)))) }
-        ensures held { is_save (as_event kind (frame_of view.now)) ≡ false → OnOk result (held_of self.new ≡ held_of self.old) }
+        ensures held { is_save (as_event kind (frame_of view.now)) ≡ false
+            → OnOk result (held_of self.new ≡ held_of self.old) }
         ensures leaves { IfErr result (λ fault. Leaves fault (held_of self.old) (held_of self.new)) }
-        ensures gets { OnOk result (gets_of self.new ≡ gets_after (reads_keeper (saved_of self.old) (as_event kind (frame_of view.now))) (gets_of self.old)) }
-        ensures given { OnOk result (reads_keeper (saved_of self.old) (as_event kind (frame_of view.now)) ≡ true → IsGiven self.old self.new) }
+        ensures gets { OnOk result (gets_of self.new
+            ≡ gets_after (reads_keeper (saved_of self.old) (as_event kind (frame_of view.now))) (gets_of self.old)) }
+        ensures given { OnOk result
+            (reads_keeper (saved_of self.old) (as_event kind (frame_of view.now)) ≡ true → IsGiven self.old self.new) }
         ensures sound { StaysSound (sound_of self.old) (sound_of self.new) }
 
         // What a fault says.
         ensures faults { CountsFaults result (faults_of self.old) (faults_of self.new) }
         ensures surely { IfErr result (λ fault. SoundFault fault (sound_of self.old)) }
         ensures cause { IfErr result (λ fault. HasCause fault
-            (calls_keeper (saved_of self.old) (as_event kind (frame_of view.now))) (reads_keeper (saved_of self.old) (as_event kind (frame_of view.now)))) }
+            (calls_keeper (saved_of self.old) (as_event kind (frame_of view.now)))
+            (reads_keeper (saved_of self.old) (as_event kind (frame_of view.now)))) }
         ensures got { IfErr result (λ fault. IfBad fault (gets_of self.new ≡ raised (gets_of self.old))) }
         ensures refused { IfErr result (λ fault. IfBad fault (IsRefused fault self.old self.new)) }
     {
