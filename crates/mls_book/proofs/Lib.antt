@@ -1,0 +1,4 @@
+pub mod Telling
+pub mod Recovering
+pub mod Carrying
+pub mod Fewer

@@ -1,0 +1,4 @@
+pub mod Faults
+pub mod Backups
+pub mod Histories
+pub mod SavedRanks
