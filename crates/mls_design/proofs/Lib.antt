@@ -6,3 +6,6 @@ pub mod Inputs
 pub mod Pieces
 pub mod Texts
 pub mod Columns
+pub mod TrialFrames
+pub mod TrialTapes
+pub mod TrialLanes
