@@ -9,3 +9,4 @@ pub mod Columns
 pub mod TrialFrames
 pub mod TrialTapes
 pub mod TrialLanes
+pub mod TrialWriting

@@ -5,3 +5,4 @@ pub mod Trial
 pub mod TrialSchedule
 pub mod TrialSizes
 pub mod TrialText
+pub mod TrialWriting

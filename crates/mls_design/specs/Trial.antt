@@ -29,9 +29,13 @@ routes s = flat_map (rank_routes s) (below s.ranks)
 unfoldable pub is_restarted : ℕ → ℕ → Bool
 is_restarted number group = word number group % 8 == 0
 
--- a group's pieces of a life for the first so many steps, step by step and field by field
+-- a group's pieces of a life for a step, field by field
+abbrev pub step_pieces : Study → Route → (group life step : ℕ) → List Frame
+step_pieces study p group life step = map (λ field. piece (solved_piece study group life step field p.rank p.client)) (below study.sizes.fields)
+
+-- those for the first so many steps, step by step
 unfoldable pub life_pieces : Study → Route → (group life steps : ℕ) → List Frame
-life_pieces study p group life steps = flat_map (λ step. map (λ field. piece (solved_piece study group life step field p.rank p.client)) (below study.sizes.fields)) (below steps)
+life_pieces study p group life steps = flat_map (step_pieces study p group life) (below steps)
 
 -- a life of a group: it says that it is there, and sends these pieces
 unfoldable pub life_frames : Study → Route → (group life steps : ℕ) → List Frame

@@ -1,6 +1,7 @@
 //! The generator of trial: a tape and a schedule that are made of a study and a number.
 
 pub mod faults;
+mod lanes;
 mod measure;
 mod plan;
 mod planning;
