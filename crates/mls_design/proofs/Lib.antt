@@ -6,3 +6,7 @@ pub mod Inputs
 pub mod Pieces
 pub mod Texts
 pub mod Columns
+pub mod TrialFrames
+pub mod TrialTapes
+pub mod TrialLanes
+pub mod TrialWriting

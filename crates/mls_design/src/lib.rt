@@ -11,9 +11,11 @@ mod piece;
 mod range;
 mod solver;
 mod text;
+mod trial;
 mod words;
 
 pub use design::Design;
 pub use piece::make_piece;
 pub use solver::solve;
 pub use text::write_design;
+pub use trial::{MakeFault, Size, tape_size};

@@ -10,7 +10,7 @@ use rand_pcg::Lcg64Xsh32;
 use std::alloc::Global;
 
 /// The stream of the generator.
-const STREAM: u64 = 54;
+pub const STREAM: u64 = 54;
 
 /// The words of a parameter in the two simulations of a group that share none.
 #[derive(Clone, Copy, Debug)]

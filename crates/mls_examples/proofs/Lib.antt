@@ -3,3 +3,4 @@ pub mod Texts
 pub mod Computing
 pub mod Equal
 pub mod ComputingStates
+pub mod TrialComputing

@@ -12,3 +12,4 @@ pub mod Designs
 pub mod Ranks
 pub mod Schedules
 pub mod CheckpointBytes
+pub mod Trial

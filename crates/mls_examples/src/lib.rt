@@ -15,3 +15,4 @@ pub mod schedules;
 pub mod statistics;
 pub mod studies;
 pub mod sums;
+pub mod trial;
