@@ -15,16 +15,16 @@ pub fn cube(x: u16) -> u64
     ensures value { result ≡ x * x * x }
     ensures small { result ≤ 281462092005375 }
 {
-    let square = x as u32 * x as u32;
-    square as u64 * x as u64
+    let square = x as u64 * x as u64;
+    square * x as u64
 }
 
 /// The fourth power.
 pub fn fourth(x: u16) -> u64
     ensures { result ≡ x * x * (x * x) }
 {
-    let square = x as u32 * x as u32;
-    square as u64 * square as u64
+    let square = x as u64 * x as u64;
+    square * square
 }
 
 /// The low 32 bits of a number.
