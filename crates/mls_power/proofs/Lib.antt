@@ -9,3 +9,4 @@ pub mod Least
 pub mod Counted
 pub mod Ruled
 pub mod AfterRows
+pub mod Pieces

@@ -9,3 +9,4 @@ pub mod Rules
 pub mod Standing
 pub mod FourColumns
 pub mod PowersAdded
+pub mod CountsAdded

@@ -1,7 +1,8 @@
 //! Adding the samples of eight rows to columns of numbers, one number for each place. The loops over places are made of a few steps that each add to several.
 
 ghost use Rattle.std.specs.Prelude.{◌≡◌, ℕ, ◌+◌, ◌*◌, ◌^◌, ◌/◌, ◌%◌, ◌<◌, ◌≤◌, length, slice_index};
-ghost use Rattle.mls_power.specs.Columns.{Walked};
+ghost use Rattle.mls_power.specs.Columns.{after, Walked};
+ghost use Rattle.mls_power.specs.CountsAdded.{AreCountsAdded};
 ghost use Rattle.mls_power.specs.PowersAdded.{most_cubes, ArePowersAdded};
 ghost use Rattle.mls_power.specs.ColumnSteps.{more_least, more_greatest, more_above};
 
@@ -15,16 +16,16 @@ pub fn cube(x: u16) -> u64
     ensures value { result ≡ x * x * x }
     ensures small { result ≤ 281462092005375 }
 {
-    let square = x as u32 * x as u32;
-    square as u64 * x as u64
+    let square = x as u64 * x as u64;
+    square * x as u64
 }
 
 /// The fourth power.
 pub fn fourth(x: u16) -> u64
     ensures { result ≡ x * x * (x * x) }
 {
-    let square = x as u32 * x as u32;
-    square as u64 * square as u64
+    let square = x as u64 * x as u64;
+    square * square
 }
 
 /// The low 32 bits of a number.
@@ -140,8 +141,52 @@ pub fn take_greatest(
     }
 }
 
-/// Counts these samples where they are above a threshold.
+// How many places are counted at a time, in numbers of 16 bits, so that a vectorized step counts at eight places and not at four.
+const PIECE: usize = 256;
+
+// Counts the samples of eight rows that are above a threshold, at so many places from `from` on.
 #[tactic(auto, using(crate::proofs::AfterRows::after_none, crate::proofs::AfterRows::after_more))]
+fn count_piece(
+    counts: &mut [u16],
+    from: usize,
+    count: usize,
+    samples: &[u16],
+    x: usize,
+    y: usize,
+    stride: usize,
+    threshold: u16,
+)
+    requires counts { count ≤ length counts.old }
+    requires samples_a { stride * 7 + (x + (from + count)) ≤ length samples.now }
+    requires samples_b { stride * 7 + (y + (from + count)) ≤ length samples.now }
+    ensures length { length counts.new ≡ length counts.old }
+    ensures counts { (k : ℕ) → k < count →
+        slice_index counts.new k ≡ after (more_above samples.now stride threshold x y (from + k)) 8 0 }
+{
+    for j in 0..count {
+        let mut number = 0;
+        for g in 0..GROUPS {
+            let a = one_if_above(samples[stride * g + (x + (from + j))], threshold) as u16;
+            let b = one_if_above(samples[stride * g + (y + (from + j))], threshold) as u16;
+            number += a + b;
+        }
+        counts[j] = number;
+    }
+}
+
+// Adds counts to as many numbers of a column, from `at` on.
+fn add_counts(numbers: &mut [u32], at: usize, count: usize, counts: &[u16])
+    requires numbers { at + count ≤ length numbers.old }
+    requires counts { count ≤ length counts.now }
+    requires room { (k : ℕ) → k < count → slice_index numbers.old (at + k) ≤ 131070 }
+    ensures { AreCountsAdded at count counts.now numbers.old numbers.new }
+{
+    for j in 0..count {
+        numbers[at + j] += counts[j] as u32;
+    }
+}
+
+/// Counts these samples where they are above a threshold.
 pub fn count_above(
     numbers: &mut [u32],
     at: usize,
@@ -158,13 +203,12 @@ pub fn count_above(
     requires room { (k : ℕ) → k < count → slice_index numbers.old (at + k) ≤ 131070 }
     ensures { Walked at count 8 numbers.old numbers.new (more_above samples.now stride threshold x y) }
 {
-    for j in 0..count {
-        let mut number = numbers[at + j];
-        for g in 0..GROUPS {
-            let a = one_if_above(samples[stride * g + (x + j)], threshold);
-            let b = one_if_above(samples[stride * g + (y + j)], threshold);
-            number += a + b;
-        }
-        numbers[at + j] = number;
+    let mut counts = [0; PIECE];
+    let mut from = 0;
+    while from < count {
+        let size = PIECE.min(count - from);
+        count_piece(&mut counts, from, size, samples, x, y, stride, threshold);
+        add_counts(numbers, at + from, size, &counts);
+        from += size;
     }
 }
