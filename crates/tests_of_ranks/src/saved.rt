@@ -148,4 +148,8 @@ fn other_bytes_are_refused(rt: HostRuntime) {
         why: CkptWhy::Shape,
     });
     assert_eq!(rt; refused(rt.alloc(), &shape, &signed), samples);
+    let mut numbers = NUMBERS;
+    numbers.fields = 2;
+    let two_fields = Shape::of(&numbers).expect(&rt, "a shape");
+    assert_eq!(rt; refused(rt.alloc(), &two_fields, &HEAD_2), version);
 }
