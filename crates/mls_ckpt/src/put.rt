@@ -41,8 +41,8 @@ impl Put {
         Ok(())
     }
 
-    // Appends bytes. After want of memory they are as before.
-    fn append(&mut self, bytes: &[u8]) -> Result<(), NoMemory>
+    /// Appends bytes. After want of memory they are as before.
+    pub fn extend_from_slice(&mut self, bytes: &[u8]) -> Result<(), NoMemory>
         ensures ok { OnOk result (self.new ≡ self.old ++ bytes.now) }
         ensures err { OnErr result (self.new ≡ self.old) }
     {
@@ -58,7 +58,7 @@ impl Put {
         ensures ok { OnOk result (self.new ≡ self.old ++ spelled w8 n) }
         ensures err { OnErr result (self.new ≡ self.old) }
     {
-        self.append(&[n])
+        self.extend_from_slice(&[n])
     }
 
     /// Appends a number of 2 bytes, the highest first.
@@ -69,7 +69,7 @@ impl Put {
     {
         let mut bytes = [0; 2];
         BigEndian::write_u16(&mut bytes, n);
-        self.append(&bytes)
+        self.extend_from_slice(&bytes)
     }
 
     /// Appends a number of 4 bytes, the highest first.
@@ -80,7 +80,7 @@ impl Put {
     {
         let mut bytes = [0; 4];
         BigEndian::write_u32(&mut bytes, n);
-        self.append(&bytes)
+        self.extend_from_slice(&bytes)
     }
 
     /// Appends a number of 8 bytes, the highest first.
@@ -91,7 +91,7 @@ impl Put {
     {
         let mut bytes = [0; 8];
         BigEndian::write_u64(&mut bytes, n);
-        self.append(&bytes)
+        self.extend_from_slice(&bytes)
     }
 
     /// Appends a number of 16 bytes, the highest first.
@@ -102,7 +102,7 @@ impl Put {
     {
         let mut bytes = [0; 16];
         BigEndian::write_u128(&mut bytes, n);
-        self.append(&bytes)
+        self.extend_from_slice(&bytes)
     }
 
     /// The bytes.

@@ -1,6 +1,7 @@
 -- Bytes that grow by texts.
-use Rattle.std.proofs.Common.{◌≡◌, ℕ, zero, suc, ◌+◌, ◌<◌, List, [], ◌∷◌, ◌++◌, length, map, take, get_or, append_assoc, ap, ◌∙◌, refl, sym, arith}
-use Rattle.std.specs.Int.{Width, w16, w32, w64, w128}
+use Rattle.std.proofs.Common.{◌≡◌, ℕ, suc, ◌+◌, List, [], ◌∷◌, ◌++◌, map, append_assoc, ap, ◌∙◌, refl, sym, arith}
+use Rattle.std.specs.Int.{Width, byte_len, bytes_high_first, w16, w32, w64, w128}
+use Rattle.std.specs.List.{flat_map}
 use Rattle.std.proofs.lemmas.List.{map-append}
 use Rattle.mls_model.specs.Numbers.{below}
 use Rattle.mls_model.specs.CellSums.{CellSums}
@@ -13,19 +14,14 @@ use Rattle.std.specs.Prelude.{Result, Ok, Err, OnOk}
 pub number_put : (w : Width) (n : ℕ) (old new : List ℕ) → new ≡ old ++ spelled w n → Grown old new (text w n)
 number_put w n old new e rest = ap (λ (bytes : List ℕ). bytes ++ rest) e ∙ append_assoc old (spelled w n) rest
 
--- one more of a list
-pub take_more : (xs : List ℕ) (i : ℕ) → i < length xs → take (i + 1) xs ≡ take i xs ++ get_or xs i 0 ∷ []
-take_more xs i h = ap (λ m. take m xs) (let e : i + 1 ≡ suc i = omega arith in e) ∙ next xs i h
+-- bytes that spell the numbers of a list, one after the other, are their texts
+pub row_put : (w : Width) (xs : List ℕ) (old new : List ℕ) → new ≡ old ++ flat_map (bytes_high_first (byte_len w)) xs → Grown old new (texts (text w) xs)
+unfolding spelled
+row_put w xs old new e rest = ap (λ (bytes : List ℕ). bytes ++ rest) e ∙ append_assoc old (flat_map (bytes_high_first (byte_len w)) xs) rest ∙ ap (λ (bytes : List ℕ). old ++ bytes) (row xs)
   where
-    next : (xs : List ℕ) (i : ℕ) → i < length xs → take (suc i) xs ≡ take i xs ++ get_or xs i 0 ∷ []
-    next [] i h = absurd (omega (arith, h))
-    next (x ∷ xs) zero h = refl
-    next (x ∷ xs) (suc i) h = ap (λ ys. x ∷ ys) (next xs i (omega (arith, h)))
-
-pub row_put : (w : Width) (xs : List ℕ) (i n : ℕ) (start old new : List ℕ) → i < length xs → n ≡ get_or xs i 0 → Grown start old (texts (text w) (take i xs)) → new ≡ old ++ spelled w n → Grown start new (texts (text w) (take (i + 1) xs))
-row_put w xs i n start old new h is before e rest =
-    number_put w n old new e rest ∙ (before (text w n rest) ∙ (ap (λ m. start ++ texts (text w) (take i xs) (text w m rest)) is ∙
-    (ap (λ bytes. start ++ bytes) (sym (texts-append (text w) (take i xs) (get_or xs i 0 ∷ []) rest)) ∙ ap (λ ys. start ++ texts (text w) ys rest) (sym (take_more xs i h)))))
+    row : (xs : List ℕ) → flat_map (bytes_high_first (byte_len w)) xs ++ rest ≡ texts (text w) xs rest
+    row [] = refl
+    row (x ∷ xs) = append_assoc (bytes_high_first (byte_len w) x) (flat_map (bytes_high_first (byte_len w)) xs) rest ∙ ap (λ (bytes : List ℕ). bytes_high_first (byte_len w) x ++ bytes) (row xs)
 
 -- one more value by its place
 pub below_put : {A : Type 0} (write : A → List ℕ → List ℕ) (f : ℕ → A) (n : ℕ) (start old new : List ℕ) → Grown start old (texts write (map f (below n))) → Grown old new (write (f n)) → Grown start new (texts write (map f (below (n + 1))))
