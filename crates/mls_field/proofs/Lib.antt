@@ -24,3 +24,4 @@ pub mod TakenCells
 pub mod StoredPlaces
 pub mod FieldTaken
 pub mod TextSizes
+pub mod ReadPieces

@@ -1,6 +1,6 @@
 use Rattle.std.proofs.Common.{◌≡◌, ℕ, ◌+◌, ◌<◌, ◌≤◌, slice_index}
 use Rattle.mls_model.specs.Samples.{shifted}
-use Rattle.mls_field.proofs.gathered.gather_row.Given as goal
+use Rattle.mls_field.proofs.gathered.gather_places.Given as goal
 
 -- the places before the loop's have their values
 abbrev pub invariant-loop-place : goal.invariant-loop-place
