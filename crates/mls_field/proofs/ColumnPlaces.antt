@@ -2,8 +2,7 @@
 use Rattle.std.proofs.Common.{◌≡◌, ℕ, ◌+◌, ◌-◌, ◌*◌, ◌/◌, ◌%◌, ◌<◌, List, slice_index, ap, ◌∙◌, arith}
 use Rattle.std.proofs.lemmas.Bool.{lt-ltb, le-ltb, cond-true, cond-false}
 use Rattle.std.proofs.lemmas.Nat.{div-add-mod', mod_below}
-use Rattle.mls_field.specs.ColumnSums.{of_column, products_column, powers_column, column_at, sums_step, sums_size}
-use Rattle.mls_field.specs.declared.columns.Column.{Column}
+use Rattle.mls_field.specs.ColumnSums.{Column, of_column, products_column, powers_column, column_at, sums_step, sums_size}
 
 quarters : (k j n : ℕ) → j < 4 → n ≡ 4 * k + j → (n / 4 ≡ k) × (n % 4 ≡ j)
 quarters k j n small e =

@@ -7,11 +7,9 @@ use Rattle.mls_power.specs.FourColumns.{FourWalked}
 use Rattle.mls_power.specs.PowersAdded.{ArePowersAdded}
 use Rattle.mls_power.specs.ColumnSteps.{sample_at, cube_of, fourth_of, low_half, high_half}
 use Rattle.mls_cov.specs.SumsAdded.{AreOutputsAdded, AreProductsAdded}
-use Rattle.mls_field.specs.ColumnSums.{products_column, powers_column, column_at, of_column, sums_step, most_before}
+use Rattle.mls_field.specs.ColumnSums.{Column, Samples, Products, Cubes, products_column, powers_column, column_at, of_column, sums_step, most_before}
 use Rattle.mls_field.specs.Gathered.{row_behind}
 use Rattle.mls_field.specs.Walk.{Walk}
-use Rattle.mls_field.specs.declared.columns.Column.{Column}
-use Rattle.mls_field.specs.declared.columns.Column.TheVariants.{Samples, Products, Cubes}
 use Rattle.mls_field.proofs.Behind.{in_row}
 use Rattle.mls_field.proofs.ColumnPlaces.{product_there, power_there}
 use Rattle.mls_field.proofs.Walks.{apart_rows, same_after}

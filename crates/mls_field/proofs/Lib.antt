@@ -25,3 +25,4 @@ pub mod StoredPlaces
 pub mod FieldTaken
 pub mod TextSizes
 pub mod ReadPieces
+pub mod FourAtATime

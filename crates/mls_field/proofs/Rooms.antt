@@ -4,10 +4,8 @@ use Rattle.std.proofs.lemmas.Bool.{cases_lt}
 use Rattle.std.proofs.lemmas.Nat.{div-add-mod', mod_below}
 use Rattle.mls_cov.specs.Steps.{HasSpace}
 use Rattle.mls_cov.proofs.Bounds.{space_from_room}
-use Rattle.mls_field.specs.ColumnSums.{products_column, powers_column, column_at, sums_size, most_before, most_added}
+use Rattle.mls_field.specs.ColumnSums.{Column, Samples, Products, Cubes, LowFourths, HighFourths, products_column, powers_column, column_at, sums_size, most_before, most_added}
 use Rattle.mls_field.specs.Kinds.{SumsWithin, PowersWithin}
-use Rattle.mls_field.specs.declared.columns.Column.{Column}
-use Rattle.mls_field.specs.declared.columns.Column.TheVariants.{Samples, Products, Cubes, LowFourths, HighFourths}
 use Rattle.mls_field.proofs.ColumnPlaces.{product_there, power_there}
 
 -- the sum of a column of m rows is at most this

@@ -1,9 +1,15 @@
 -- The sums that are kept of a cell: for each the column that it stands in, and what a row adds to it.
-use Rattle.std.specs.Prelude.{ℕ, zero, suc, ◌+◌, ◌-◌, ◌*◌, ◌/◌, ◌%◌, ◌<◌, ⊤, List, cond, nat_lt}
+use Rattle.std.specs.Prelude.{ℕ, zero, suc, ◌+◌, ◌-◌, ◌*◌, ◌/◌, ◌%◌, List, cond, nat_lt}
 use Rattle.mls_model.specs.CellSums.{sample}
 use Rattle.mls_power.specs.ColumnSteps.{cube_of, fourth_of, low_half, high_half}
-use Rattle.mls_field.specs.declared.columns.Column.{Column}
-use Rattle.mls_field.specs.declared.columns.Column.TheVariants.{Samples, Products, Cubes, LowFourths, HighFourths}
+
+-- what the sums of a column are of: a kind of samples, the products of two kinds, the third powers of a kind, and the low and the high halves of the fourth powers of A and B
+pub data Column : Type 0 where
+  Samples : (x : ℕ) → Column
+  Products : (x y : ℕ) → Column
+  Cubes : (x : ℕ) → Column
+  LowFourths : Column
+  HighFourths : Column
 
 -- how many sums a cell of so many parameters has: those of samples and products, and four of powers
 abbrev pub sums_size : ℕ → ℕ
@@ -40,14 +46,6 @@ column_at p c = cond (nat_lt c (4 + 4 * p)) (products_column (c / 4) (c % 4)) (p
 
 abbrev pub sums_step : ℕ → ℕ → List ℕ → ℕ → ℕ
 sums_step p c row n = n + of_column (column_at p c) row
-
--- which samples a column is of are among those of a row
-abbrev pub IsWithin : ℕ → Column → Type 0
-IsWithin rows (Samples x) = x < rows
-IsWithin rows (Products x y) = (x < rows) × (y < rows)
-IsWithin rows (Cubes x) = x < rows
-IsWithin rows LowFourths = ⊤
-IsWithin rows HighFourths = ⊤
 
 -- how large a sum may be for eight rows to be added
 abbrev pub most_before : Column → ℕ

@@ -4,13 +4,12 @@ ghost use Rattle.std.specs.Prelude.{◌≡◌, ℕ, ◌+◌, ◌*◌, ◌^◌, �
 ghost use Rattle.mls_power.specs.Standing.{count_of, first_of as power_first, second_of as power_second};
 ghost use Rattle.mls_power.specs.Standing.{third_of as power_third, fourth_of as power_fourth};
 ghost use Rattle.mls_field.specs.EightRows.{AddsRows};
-ghost use Rattle.mls_field.specs.ColumnSums.{sums_size, of_column, column_at, sums_step, IsWithin, most_added};
+ghost use Rattle.mls_field.specs.ColumnSums.{sums_size, of_column, products_column, powers_column, column_at, sums_step, most_added};
 ghost use Rattle.mls_field.specs.Gathered.{row_behind};
 ghost use Rattle.mls_field.specs.Kinds.{SumsWithin, first_of, second_of, third_of, fourth_of};
 ghost use Rattle.mls_field.specs.OneCell.{IsRowAt, SameFront, Stepped, HasRoomFor};
 ghost use Rattle.mls_field.specs.OutputSteps.{ends_step, numbers_step};
 
-use crate::columns::{Column, column_of};
 use mls_base::shape::Shape;
 use mls_power::above::one_if_above;
 use mls_power::columns::{cube, fourth, high_half, low_half};
@@ -21,24 +20,53 @@ use mls_power::power::Power;
 /// The most sums of a cell.
 pub(crate) const MOST_SUMS: usize = 72;
 
-// What a row adds to a sum.
-fn addend(column: Column, parameters: u32, samples: &[u16], at: usize, places: usize) -> u64
-    requires few { parameters ≤ 16 }
-    requires column { IsWithin (parameters + 2) column }
-    requires samples { (r : ℕ) → r < parameters + 2 → at + r * places < length samples.now }
-    ensures value { (row : List ℕ) → IsRowAt (parameters + 2) places at samples.now row →
-        result ≡ of_column column row }
-    ensures small { result ≤ most_added column }
+// What a row adds to the sums of A, B, AA and BB.
+fn outputs_added(a: u16, b: u16) -> [u64; 4]
+    ensures value { (row : List ℕ) → slice_index row 0 ≡ a → slice_index row 1 ≡ b →
+        (d : ℕ) → d < 4 → slice_index result d ≡ of_column (products_column 0 d) row }
+    ensures small { (d : ℕ) → d < 4 → slice_index result d ≤ 8589934590 }
 {
-    match column {
-        Column::Samples { x } => samples[at + x * places] as u64,
-        Column::Products { x, y } => samples[at + x * places] as u64
-            * samples[at + y * places] as u64,
-        Column::Cubes { x } => cube(samples[at + x * places]),
-        Column::LowFourths => low_half(fourth(samples[at]))
-            + low_half(fourth(samples[at + places])),
-        Column::HighFourths => high_half(fourth(samples[at]))
-            + high_half(fourth(samples[at + places])),
+    let (a, b) = (a as u64, b as u64);
+    [a, b, a * a, b * b]
+}
+
+// What it adds to the sums of C, CC, AC and BC of a parameter.
+fn products_added(a: u16, b: u16, c: u16) -> [u64; 4]
+    ensures value { (k : ℕ) (row : List ℕ) →
+        slice_index row 0 ≡ a → slice_index row 1 ≡ b → slice_index row (2 + k) ≡ c →
+        (d : ℕ) → d < 4 → slice_index result d ≡ of_column (products_column (1 + k) d) row }
+    ensures small { (d : ℕ) → d < 4 → slice_index result d ≤ 8589934590 }
+{
+    let (a, b, c) = (a as u64, b as u64, c as u64);
+    [c, c * c, a * c, b * c]
+}
+
+// What it adds to the sums of the cubes of A and of B, and of the halves of the fourth powers of both.
+fn powers_added(a: u16, b: u16) -> [u64; 4]
+    ensures value { (row : List ℕ) → slice_index row 0 ≡ a → slice_index row 1 ≡ b →
+        (d : ℕ) → d < 4 → slice_index result d ≡ of_column (powers_column d) row }
+    ensures small { (d : ℕ) → d < 4 → slice_index result d ≤ most_added (powers_column d) }
+{
+    let (fourth_a, fourth_b) = (fourth(a), fourth(b));
+    [
+        cube(a),
+        cube(b),
+        low_half(fourth_a) + low_half(fourth_b),
+        high_half(fourth_a) + high_half(fourth_b),
+    ]
+}
+
+// Adds four numbers to four sums from a place on.
+fn add_four(sums: &mut [u64], at: usize, more: &[u64; 4])
+    requires size { at + 4 ≤ length sums.old }
+    requires room { (d : ℕ) → d < 4 → slice_index sums.old (at + d) + slice_index more.now d < 2 ^ 64 }
+    ensures grew { (d : ℕ) → d < 4 →
+        slice_index sums.new (at + d) ≡ slice_index sums.old (at + d) + slice_index more.now d }
+    ensures before { (i : ℕ) → i < at → slice_index sums.new i ≡ slice_index sums.old i }
+    ensures behind { (i : ℕ) → at + 4 ≤ i → slice_index sums.new i ≡ slice_index sums.old i }
+{
+    for d in 0..4 {
+        sums[at + d] += more[d];
     }
 }
 
@@ -52,10 +80,14 @@ fn add_row(sums: &mut [u64], parameters: u32, samples: &[u16], at: usize, places
     ensures { (row : List ℕ) → IsRowAt (parameters + 2) places at samples.now row →
         Stepped (sums_step parameters) (sums_size parameters) row sums.old sums.new }
 {
-    for c in 0..8 + 4 * parameters as usize {
-        let column = column_of(parameters, c);
-        sums[c] += addend(column, parameters, samples, at, places);
+    let a = samples[at];
+    let b = samples[at + places];
+    add_four(sums, 0, &outputs_added(a, b));
+    for k in 0..parameters as usize {
+        let c = samples[at + (k + 2) * places];
+        add_four(sums, 4 + 4 * k, &products_added(a, b, c));
     }
+    add_four(sums, 4 + 4 * parameters as usize, &powers_added(a, b));
 }
 
 /// Adds the rows that wait for a cell to its sums.

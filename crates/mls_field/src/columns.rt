@@ -1,70 +1,13 @@
 //! Adding eight rows that wait to the columns of sums of a plane's cells.
 
 ghost use Rattle.std.specs.Prelude.{◌≡◌, ℕ, ◌+◌, ◌-◌, ◌*◌, ◌^◌, ◌<◌, ◌≤◌, List, length, slice_index};
-ghost use Rattle.mls_field.specs.ColumnSums.{sums_size, products_column, powers_column, column_at, IsWithin};
+ghost use Rattle.mls_field.specs.ColumnSums.{sums_size};
 ghost use Rattle.mls_field.specs.EightRows.{sums_steps, ends_steps, numbers_steps, HasRoomForEight};
 ghost use Rattle.mls_field.specs.Walk.{Walk};
 
 use mls_base::shape::Shape;
 use mls_cov::columns::{add_outputs, add_products};
 use mls_power::columns::{add_powers, count_above, take_greatest, take_least};
-
-/// What the sums of a column are of.
-#[derive(Clone, Copy)]
-pub(crate) enum Column {
-    /// A kind of samples.
-    Samples { x: usize },
-    /// The products of two kinds of samples.
-    Products { x: usize, y: usize },
-    /// The third powers of a kind of samples.
-    Cubes { x: usize },
-    /// The low halves of the fourth powers of A and B.
-    LowFourths,
-    /// The high halves of the fourth powers of A and B.
-    HighFourths,
-}
-
-fn products_column(k: usize, kind: usize) -> Column
-    requires { k ≤ 16 }
-    ensures { result ≡ products_column k kind }
-{
-    match (k, kind) {
-        (0, 0) => Column::Samples { x: 0 },
-        (0, 1) => Column::Samples { x: 1 },
-        (0, 2) => Column::Products { x: 0, y: 0 },
-        (0, _) => Column::Products { x: 1, y: 1 },
-        (_, 0) => Column::Samples { x: k + 1 },
-        (_, 1) => Column::Products { x: k + 1, y: k + 1 },
-        (_, 2) => Column::Products { x: 0, y: k + 1 },
-        _ => Column::Products { x: 1, y: k + 1 },
-    }
-}
-
-fn powers_column(place: usize) -> Column
-    ensures { result ≡ powers_column place }
-{
-    match place {
-        0 => Column::Cubes { x: 0 },
-        1 => Column::Cubes { x: 1 },
-        2 => Column::LowFourths,
-        _ => Column::HighFourths,
-    }
-}
-
-/// What the sums of a column are of, where the columns are numbered.
-pub(crate) fn column_of(parameters: u32, c: usize) -> Column
-    requires few { parameters ≤ 16 }
-    requires c_in { c < sums_size parameters }
-    ensures value { result ≡ column_at parameters c }
-    ensures within { IsWithin (parameters + 2) result }
-{
-    let products = 4 + 4 * parameters as usize;
-    if c < products {
-        products_column(c / 4, c % 4)
-    } else {
-        powers_column(c - products)
-    }
-}
 
 // How many places are walked at a time, so that their sums and the samples that wait for them lie in cache for all columns.
 const CHUNK: usize = 1024;

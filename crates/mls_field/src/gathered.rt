@@ -35,7 +35,8 @@ fn read_piece<R: Rows>(
     requires fits { from + count < 2 ^ 32 }
     requires few { count ≤ 256 }
     ensures small { (k : ℕ) → k < count → slice_index piece.new k ≤ 65535 }
-    ensures values { (k : ℕ) → k < count → slice_index piece.new k ≡ shifted signed (R.sample rows.now row (from + k)) }
+    ensures values { (k : ℕ) → k < count →
+        slice_index piece.new k ≡ shifted signed (R.sample rows.now row (from + k)) }
 {
     for place in 0..count {
         piece[place as usize] = shifted_value(signed, rows.at(row, from + place));
