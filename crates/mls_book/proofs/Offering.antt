@@ -1,20 +1,19 @@
 -- What a book says of an offer, by what its rank says.
-use Rattle.std.proofs.Common.{◌≡◌, ℕ, ◌+◌, ◌<◌, Bool, true, false, List, [], ◌∷◌, ◌++◌, length, Option, None, refl, sym, ap, ◌∙◌, subst, inl, inr, ⊎_elim}
-use Rattle.std.specs.Prelude.{IsSome, is_some, slice_index, slice_set, ◌⊎◌}
+use Rattle.std.proofs.Common.{◌≡◌, ℕ, ◌+◌, ◌<◌, List, [], ◌∷◌, ◌++◌, length, Option, None, refl, sym, ap, ◌∙◌, subst, inl, inr, ⊎_elim}
+use Rattle.std.specs.Prelude.{is_some, slice_index, slice_set}
 use Rattle.std.proofs.lemmas.Bool.{true≢false}
 use Rattle.mls_base.specs.declared.outside.Keeper as keeper
 use Rattle.mls_model.specs.declared.outcomes.Outcome.{Outcome}
 use Rattle.mls_model.specs.Studies.{Sizes}
 use Rattle.mls_model.specs.Histories.{LaneEvent}
-use Rattle.mls_model.specs.Survival.{is_crash}
 use Rattle.mls_tape.specs.Events.{DecodedEvent}
 use Rattle.mls_field.specs.declared.fold.RowFold.{Ghosts}
 use Rattle.mls_rank.specs.declared.rank_core.RankCore.{RankCore}
-use Rattle.mls_rank.specs.Standing.{StandsFor, IsPart}
+use Rattle.mls_rank.specs.Standing.{StandsFor}
 use Rattle.mls_book.specs.declared.faults.BookFault.{BookFault}
 use Rattle.mls_book.specs.declared.saved_rank.SavedRank.{SavedRank}
 use Rattle.mls_book.specs.Backups.{Begins}
-use Rattle.mls_book.specs.SavedRanks.{core_of, study_of, number_of, saved_of, opening_of, keeper_of, calls_keeper, TakesMemory, CountsFew}
+use Rattle.mls_book.specs.SavedRanks.{core_of, study_of, number_of, saved_of, opening_of, keeper_of, TakesMemory, CountsFew}
 use Rattle.mls_book.specs.Cores.{parts_of}
 use Rattle.mls_book.specs.Books.{BookView}
 use Rattle.mls_book.specs.Offers.{lane_event, IsTaken, IsRefused, NeedsMore, recorded}

@@ -1,5 +1,5 @@
 -- What a core stands for by its parts.
-use Rattle.std.proofs.Common.{◌≡◌, ℕ, List, refl, sym, ap, ◌∙◌, subst}
+use Rattle.std.proofs.Common.{◌≡◌, List, sym, subst}
 use Rattle.mls_model.specs.Histories.{LaneEvent}
 use Rattle.mls_model.specs.Survival.{surviving}
 use Rattle.mls_model.specs.Fitting.{fitting}

@@ -1,7 +1,7 @@
 -- What a rank says of an event, and what it makes of a book's fields.
-use Rattle.std.proofs.Common.{◌≡◌, ℕ, ◌+◌, ◌^◌, ◌<◌, ◌≤◌, min, max, Bool, true, false, ◌||◌, List, [], ◌∷◌, ◌++◌, length, get_or, set, replicate, Option, None, Some, Ok, refl, sym, ap, ◌∙◌, subst, inl, inr, ⊎_elim, arith}
-use Rattle.std.specs.Prelude.{IsSome, IfSome, ◌⊎◌}
-use Rattle.std.proofs.lemmas.Bool.{cases_Bool, true≢false}
+use Rattle.std.proofs.Common.{◌≡◌, ℕ, ◌+◌, ◌^◌, ◌<◌, ◌≤◌, min, max, Bool, true, false, ◌||◌, List, [], ◌∷◌, ◌++◌, length, get_or, set, replicate, Option, None, Some, refl, sym, ap, ◌∙◌, subst, inl, inr, arith}
+use Rattle.std.specs.Prelude.{IsSome, IfSome}
+use Rattle.std.proofs.lemmas.Bool.{cases_Bool}
 use Rattle.std.proofs.lemmas.List.{length_push}
 use Rattle.mls_base.specs.Told.{MayCease, replaced, raised, StaysSound}
 use Rattle.mls_base.specs.declared.outside.Keeper as keeper
@@ -23,12 +23,11 @@ use Rattle.mls_book.specs.declared.faults.BookFault.TheVariants.{KeeperFault, Ch
 use Rattle.mls_book.specs.declared.saved_rank.SavedRank.{SavedRank}
 use Rattle.mls_book.specs.Faults.{Leaves, CountsFault, SoundFault, HasCause, IfBad}
 use Rattle.mls_book.specs.Backups.{written_of, gets_after, Begins}
-use Rattle.mls_book.specs.SavedRanks.{core_of, study_of, number_of, total_of, saved_of, opening_of, keeper_of, held_of, faults_of, gets_of, last_of, sound_of, IsGiven, IsRefused, reads_keeper, calls_keeper, CarriesHistory, CarriesMore, CountsFew}
+use Rattle.mls_book.specs.SavedRanks.{core_of, study_of, number_of, total_of, saved_of, opening_of, keeper_of, held_of, faults_of, gets_of, sound_of, IsGiven, IsRefused, reads_keeper, calls_keeper, CarriesHistory, CarriesMore, CountsFew}
 use Rattle.mls_book.specs.Histories.{Sure}
-use Rattle.mls_book.specs.Journals.{ToldLane, told_event, told_history, AllTell}
+use Rattle.mls_book.specs.Journals.{ToldLane, told_event, told_history}
 use Rattle.mls_book.specs.Books.{IsRecord, IsJournal, BookKept}
 use Rattle.mls_book.specs.Offers.{recorded}
-use Rattle.mls_book.proofs.Telling.{leaves_may}
 use Rattle.mls_book.proofs.JournalLaws.{told_is, told_few, tell_before, history_none, history_more, history_few, journal_none, journal_more}
 
 -- an event that is taken

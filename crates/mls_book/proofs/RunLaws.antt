@@ -1,12 +1,12 @@
 -- What one more event asks of a keeper.
-use Rattle.std.proofs.Common.{◌≡◌, ℕ, suc, Bool, true, false, ◌||◌, cond, List, [], ◌∷◌, ◌++◌, length, Option, None, Some, refl, sym, ap, ◌∙◌, subst, inl, inr}
+use Rattle.std.proofs.Common.{◌≡◌, ℕ, suc, Bool, true, false, cond, List, [], ◌∷◌, ◌++◌, length, Option, None, Some, refl, sym, ap, ◌∙◌, subst, inl, inr}
 use Rattle.std.specs.Prelude.{IfSome}
 use Rattle.std.specs.List.{list_any}
 use Rattle.std.specs.Option.{option_to_list}
 use Rattle.std.proofs.lemmas.List.{append-nil}
 use Rattle.std.proofs.lemmas.Bool.{cases_Bool}
 use Rattle.mls_base.specs.declared.outside.Keeper as keeper
-use Rattle.mls_base.specs.Told.{raised, replaced}
+use Rattle.mls_base.specs.Told.{replaced}
 use Rattle.mls_model.specs.declared.outcomes.Outcome.{Outcome}
 use Rattle.mls_model.specs.Studies.{Sizes}
 use Rattle.mls_model.specs.Standing.{Table}

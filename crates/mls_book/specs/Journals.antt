@@ -1,5 +1,5 @@
 -- The history of a journal: the events of its lanes in the order in which they were taken.
-use Rattle.std.specs.Prelude.{ℕ, ◌+◌, List, [], Option, IsSome}
+use Rattle.std.specs.Prelude.{ℕ, List, [], Option, IsSome}
 use Rattle.std.specs.List.{AllByRecursion}
 use Rattle.std.specs.Option.{option_to_list, option_map, option_and_then}
 use Rattle.mls_model.specs.declared.lanes.LaneKind.{LaneKind}

@@ -1,8 +1,7 @@
 -- What becomes of a book by an offer.
-use Rattle.std.specs.Prelude.{◌≡◌, ℕ, ◌+◌, ◌<◌, Bool, true, false, ◌||◌, List, [], ◌∷◌, ◌++◌, length, slice_index, slice_set, Option, None, Some, Ok, Err, Result, IfSome, ⊤, ◌⊎◌}
+use Rattle.std.specs.Prelude.{◌≡◌, ℕ, ◌+◌, ◌<◌, Bool, true, false, ◌||◌, [], ◌∷◌, ◌++◌, length, slice_index, slice_set, Option, None, Some, Ok, IfSome, ⊤, ◌⊎◌}
 use Rattle.mls_model.specs.declared.outcomes.Outcome.{Outcome}
 use Rattle.mls_model.specs.Studies.{Sizes}
-use Rattle.mls_model.specs.Frames.{Frame}
 use Rattle.mls_model.specs.Histories.{LaneEvent}
 use Rattle.mls_model.specs.Survival.{is_save, is_crash}
 use Rattle.mls_base.specs.declared.outside.Keeper as keeper
@@ -17,7 +16,7 @@ use Rattle.mls_book.specs.declared.offered.Offered.TheVariants.{Taken, Stale}
 use Rattle.mls_book.specs.Faults.{Leaves, CountsFault, SoundFault, HasCause, IfBad, IsRefusal}
 use Rattle.mls_book.specs.Backups.{given_state, gets_after}
 use Rattle.mls_book.specs.SavedRanks.{reads_keeper, calls_keeper}
-use Rattle.mls_book.specs.Cores.{CoreParts, Stands, StandsAlso, StandsAfter, IsRightOutcome, parts_state, parts_bytes, SameParts}
+use Rattle.mls_book.specs.Cores.{Stands, StandsAlso, StandsAfter, IsRightOutcome, parts_state, parts_bytes, SameParts}
 use Rattle.mls_book.specs.Books.{BookView}
 
 -- what holds where an event is taken at a place with an outcome

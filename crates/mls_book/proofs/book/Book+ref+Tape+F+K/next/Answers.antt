@@ -1,5 +1,5 @@
 -- All events of a lane are taken.
-use Rattle.std.proofs.Common.{◌≡◌, ◌≤◌, ap, arith}
+use Rattle.std.proofs.Common.{ap, arith}
 use Rattle.mls_model.specs.Numbers.{times}
 use Rattle.mls_model.specs.Schedules.{event_count}
 use Rattle.mls_book.proofs.TapeBooks.{told_within}
