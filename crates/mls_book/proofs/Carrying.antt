@@ -37,13 +37,13 @@ or_none true = refl
 or_none false = refl
 
 -- whether there was a save, with one event more
-no_save_more : (run : List LaneEvent) (e : LaneEvent) → is_save e ≡ false → list_any is_save (run ++ e ∷ []) ≡ list_any is_save run
+pub no_save_more : (run : List LaneEvent) (e : LaneEvent) → is_save e ≡ false → list_any is_save (run ++ e ∷ []) ≡ list_any is_save run
 no_save_more run e none = list_any-append is_save run (e ∷ []) ∙ (ap (λ b. list_any is_save run || (b || false)) none ∙ or_none (list_any is_save run))
 
-save_more : (run : List LaneEvent) (e : LaneEvent) → is_save e ≡ true → list_any is_save (run ++ e ∷ []) ≡ true
+pub save_more : (run : List LaneEvent) (e : LaneEvent) → is_save e ≡ true → list_any is_save (run ++ e ∷ []) ≡ true
 save_more run e saves = list_any-append is_save run (e ∷ []) ∙ or_right (list_any is_save run) (list_any is_save (e ∷ [])) (or_left (is_save e) false saves)
 
-before_other : (whole : List LaneEvent) (e : LaneEvent) → is_save e ≡ false → before_last_save (whole ++ e ∷ []) ≡ before_last_save whole
+pub before_other : (whole : List LaneEvent) (e : LaneEvent) → is_save e ≡ false → before_last_save (whole ++ e ∷ []) ≡ before_last_save whole
 before_other whole e none = before_last_save_more whole e ∙ ap (λ b. cond b whole (before_last_save whole)) none
 
 before_save : (whole : List LaneEvent) (e : LaneEvent) → is_save e ≡ true → before_last_save (whole ++ e ∷ []) ≡ whole

@@ -2,3 +2,9 @@ pub mod Telling
 pub mod Recovering
 pub mod Carrying
 pub mod Fewer
+pub mod JournalLaws
+pub mod PartLaws
+pub mod RankTakes
+pub mod Offering
+pub mod TapeBooks
+pub mod RunLaws

@@ -2,3 +2,8 @@ pub mod Faults
 pub mod Backups
 pub mod Histories
 pub mod SavedRanks
+pub mod Journals
+pub mod Cores
+pub mod Books
+pub mod Offers
+pub mod Runs

@@ -1,5 +1,5 @@
 -- What clauses see of a rank with its keeper.
-use Rattle.std.specs.Prelude.{◌≡◌, ℕ, Bool, ◌&&◌, ◌||◌, List, [], ◌∷◌, ◌++◌, Option, Ok, IfSome}
+use Rattle.std.specs.Prelude.{◌≡◌, ℕ, Bool, true, ◌&&◌, ◌||◌, List, [], ◌∷◌, ◌++◌, Option, Ok, IsSome, IfSome, ◌⊎◌}
 use Rattle.std.specs.Option.{option_map}
 use Rattle.mls_model.specs.Studies.{Sizes}
 use Rattle.mls_model.specs.Histories.{LaneEvent}
@@ -9,6 +9,7 @@ use Rattle.mls_base.specs.declared.outside.Keeper as keeper
 use Rattle.mls_field.specs.declared.fold.RowFold.{Ghosts}
 use Rattle.mls_rank.specs.declared.rank_core.RankCore.{RankCore}
 use Rattle.mls_rank.specs.Cores.{sizes_of, rank_of, counts_of}
+use Rattle.mls_rank.specs.Standing.{IsPart}
 use Rattle.mls_rank.specs.Saving.{state_of}
 use Rattle.mls_book.specs.declared.faults.BookFault.{BookFault}
 use Rattle.mls_book.specs.Faults.{IsRefusal}
@@ -75,6 +76,10 @@ reads_keeper saved e = is_crash e && saved
 
 abbrev pub calls_keeper : Bool → LaneEvent → Bool
 calls_keeper saved e = is_save e || reads_keeper saved e
+
+-- Where an event takes memory: for a piece that covers a part of the rank's block, at a call of the keeper, or for the bytes of the beginning.
+abbrev pub TakesMemory : {F K : Type 0} {T : Ghosts F} {U : keeper.Ghosts K} → SavedRank F K T U → LaneEvent → Type 0
+TakesMemory x e = IsPart (study_of x) (number_of x) e.kind e.frame ⊎ ((calls_keeper (saved_of x) e ≡ true) ⊎ IsSome (opening_of x))
 
 -- it carries a whole history, of which the run's own events are the last
 abbrev pub CarriesHistory : {F K : Type 0} {T : Ghosts F} {U : keeper.Ghosts K} → SavedRank F K T U → (whole run : List LaneEvent) → Type 0

@@ -4,7 +4,7 @@
 //! this run. Where this run had no save it goes back to the state at the beginning, and the keeper isn't called: to no
 //! events, or to the state that bytes spell which were given at the beginning.
 
-ghost use Rattle.std.specs.Prelude.{◌≡◌, ◌<◌, ◌≤◌, ◌+◌, ◌-◌, ◌^◌, max, ℕ, Bool, true, false, ◌&&◌, ◌||◌, cond, List, [], ◌∷◌, ◌++◌, length, Option, None, Some, Ok, IsTrue, IsOk, IfOk, IfErr, IfSome, OnOk, OnErr, MatchResult};
+ghost use Rattle.std.specs.Prelude.{◌≡◌, ◌<◌, ◌≤◌, ◌+◌, ◌-◌, ◌^◌, max, ℕ, Bool, true, false, ◌&&◌, ◌||◌, cond, List, [], ◌∷◌, ◌++◌, length, Option, None, Some, Ok, IsTrue, IsOk, IfOk, IfErr, IfSome, OnOk, OnErr, MatchResult, IsSome};
 ghost use Rattle.std.specs.Option.{option_map};
 ghost use Rattle.std.proofs.Props.{props};
 ghost use Rattle.mls_base.specs.Told.{raised, replaced, GetLeaves, CountsStore, StaysSound, SoundStore};
@@ -17,7 +17,7 @@ ghost use Rattle.mls_frame.specs.Views.{frame_of};
 ghost use Rattle.mls_rank.specs.Cores.{sizes_of, rank_of, counts_of, IsSame};
 ghost use Rattle.mls_rank.specs.Counting.{no_counts, is_idle, is_saved, is_crashed};
 ghost use Rattle.mls_rank.specs.Saving.{state_of, SpellsCore, RecoversSaved};
-ghost use Rattle.mls_rank.specs.Standing.{StandsFor, StandsOn, IsOutcome, as_event};
+ghost use Rattle.mls_rank.specs.Standing.{StandsFor, StandsOn, IsOutcome, as_event, IsPart};
 ghost use Rattle.mls_book.specs.declared.faults.BookFault.TheVariants.{Memory};
 ghost use Rattle.mls_book.specs.Faults.{Leaves, CountsFaults, SoundFault, HasCause, IfBad};
 ghost use Rattle.mls_book.specs.Backups.{written_of, IsCheckpoint, IsSpelled, given_state, gets_after, Begins, GoesBack};
@@ -98,7 +98,7 @@ pub struct SavedRank<F: RowFold, K: Keeper + Drop> {
 impl<F: RowFold, K: Keeper + Drop> SavedRank<F, K> {
     ghost use Rattle.mls_book.specs.SavedRanks.{core_of, study_of, number_of, total_of, saved_of, opening_of};
     ghost use Rattle.mls_book.specs.SavedRanks.{keeper_of, held_of, faults_of, gets_of, last_of, sound_of};
-    ghost use Rattle.mls_book.specs.SavedRanks.{reads_keeper, calls_keeper};
+    ghost use Rattle.mls_book.specs.SavedRanks.{reads_keeper, calls_keeper, TakesMemory};
     ghost use Rattle.mls_book.specs.SavedRanks.{IsGiven, IsRefused, IsUnspelled, CarriesHistory, CarriesMore, CountsFew};
 
     /// The state before any event. This run had no save, and the keeper isn't called.
@@ -192,6 +192,7 @@ impl<F: RowFold, K: Keeper + Drop> SavedRank<F, K> {
             ((h : List LaneEvent) → StandsFor (core_of self.old) h → StandsFor (core_of self.new) h) }
         ensures same { OnErr result (IsSame (core_of self.old) (core_of self.new)) }
         ensures fault { IfErr result (λ fault. fault ≡ Memory) }
+        ensures needs { OnErr result (IsPart (study_of self.old) (number_of self.old) kind (frame_of view.now)) }
         ensures sizes { study_of self.new ≡ study_of self.old }
         ensures rank { number_of self.new ≡ number_of self.old }
         ensures sum { total_of self.new ≤ total_of self.old + 1 }
@@ -250,6 +251,7 @@ impl<F: RowFold, K: Keeper + Drop> SavedRank<F, K> {
             (Begins (study_of self.old) (number_of self.old) (opening_of self.old) (core_of self.new)) }
         ensures few { OnOk result (total_of self.new ≤ 2 ^ 62) }
         ensures err { OnErr result (core_of self.new ≡ core_of self.old) }
+        ensures needs { OnErr result (IsSome (opening_of self.old)) }
         ensures keeper { keeper_of self.new ≡ keeper_of self.old }
         ensures saved { saved_of self.new ≡ saved_of self.old }
         ensures opening { opening_of self.new ≡ opening_of self.old }
@@ -382,6 +384,7 @@ impl<F: RowFold, K: Keeper + Drop> SavedRank<F, K> {
             (reads_keeper (saved_of self.old) (as_event kind (frame_of view.now)))) }
         ensures got { IfErr result (λ fault. IfBad fault (gets_of self.new ≡ raised (gets_of self.old))) }
         ensures refused { IfErr result (λ fault. IfBad fault (IsRefused fault self.old self.new)) }
+        ensures needs { OnErr result (TakesMemory self.old (as_event kind (frame_of view.now))) }
     {
         let outcome = self.step(kind, view)?;
         if saves(outcome) {
