@@ -1,5 +1,5 @@
 -- A simulation's inputs, and what the solver makes of them.
-use Rattle.std.proofs.Common.{◌≡◌, ℕ, zero, suc, ◌+◌, ◌-◌, ◌*◌, ◌/◌, ◌%◌, ◌^◌, ◌<◌, ◌≤◌, cond, List, [], ◌∷◌, length, get_or, drop, map, sym, ◌∙◌, ap, arith}
+use Rattle.std.proofs.Common.{◌≡◌, ℕ, zero, suc, ◌+◌, ◌-◌, ◌*◌, ◌/◌, ◌%◌, ◌^◌, ◌<◌, ◌≤◌, cond, List, [], ◌∷◌, length, get_or, drop, map, refl, sym, ◌∙◌, ap, arith}
 use Rattle.std.specs.Prelude.{sum_by}
 use Rattle.std.specs.List.{enumerate_from, AllByRecursion}
 use Rattle.std.proofs.lemmas.List.{length-map, drop_all}
@@ -91,3 +91,19 @@ response_of_inputs study group sim shift few = response_small shift (inputs stud
 pub solve_small : (study : Study) (group sim step field cell : ℕ) → length study.parameters ≤ 16 → solve study group sim step field cell ≤ 65535
 unfolding solve
 solve_small study group sim step field cell few = response_of_inputs study group sim (cell + step + field) few
+
+-- ---- weights go by the shift modulo 4
+
+mod_same : (n a b : ℕ) → a % 4 ≡ b % 4 → (n + a) % 4 ≡ (n + b) % 4
+mod_same n a b e = omega (arith, e)
+
+same_weights : (a b : ℕ) (xs : List (ℕ × ℕ)) → a % 4 ≡ b % 4 → sum_by (weighted_by a) xs ≡ sum_by (weighted_by b) xs
+same_weights a b [] e = refl
+same_weights a b (x ∷ xs) e =
+    omega (arith, sum_by-cons (weighted_by a) x xs, sum_by-cons (weighted_by b) x xs, same_weights a b xs e, ap (λ m. (1 + m) * x.1) (mod_same x.0 a b e))
+
+pub same_response : (a b : ℕ) (ss : List ℕ) → a % 4 ≡ b % 4 → response a ss ≡ response b ss
+same_response a b ss e = ap (λ m. m + (get_or ss 0 0 * get_or ss (length ss - 1) 0) / 16384) (same_weights a b (enumerate_from 0 ss) e)
+
+pub turn_of : (first place step field : ℕ) → ((first + step + field) + place % 4) % 4 ≡ (first + place + step + field) % 4
+turn_of first place step field = omega arith

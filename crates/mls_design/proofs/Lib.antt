@@ -10,3 +10,10 @@ pub mod TrialFrames
 pub mod TrialTapes
 pub mod TrialLanes
 pub mod TrialWriting
+pub mod TrialReading
+pub mod TrialMixing
+pub mod TrialOrders
+pub mod TrialBytes
+pub mod TrialStocks
+pub mod TrialCompletion
+pub mod TrialAccepted

@@ -21,11 +21,11 @@ use Rattle.mls_design.proofs.TrialFrames.{pieces-append}
 
 -- ---- bytes of a tape
 
-lane-length : (lane : SpelledLane) → length (lane_spelling lane) ≡ 7 + length lane.bytes
+pub lane-length : (lane : SpelledLane) → length (lane_spelling lane) ≡ 7 + length lane.bytes
 unfolding lane_spelling
 lane-length lane = omega arith
 
-tape-length : (signed : Bool) (version : ℕ) (lanes : List SpelledLane) → length (tape_bytes signed version lanes) ≡ 10 + (length (samples_spelling signed version) + length (flat_map lane_spelling lanes))
+pub tape-length : (signed : Bool) (version : ℕ) (lanes : List SpelledLane) → length (tape_bytes signed version lanes) ≡ 10 + (length (samples_spelling signed version) + length (flat_map lane_spelling lanes))
 unfolding tape_bytes
 tape-length signed version lanes = omega (arith, length-append (samples_spelling signed version) (u32 (length lanes) ++ flat_map lane_spelling lanes))
 

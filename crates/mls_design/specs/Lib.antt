@@ -2,6 +2,7 @@ pub mod Kept
 pub mod Lines
 pub mod Ranges
 pub mod Trial
+pub mod TrialMixing
 pub mod TrialSchedule
 pub mod TrialSizes
 pub mod TrialText

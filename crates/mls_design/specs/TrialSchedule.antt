@@ -5,14 +5,10 @@ use Rattle.mls_model.specs.Numbers.{below, times}
 use Rattle.mls_model.specs.Studies.{Study}
 use Rattle.mls_model.specs.Lanes.{Lane}
 use Rattle.mls_model.specs.Designs.{word}
+use Rattle.mls_design.specs.declared.trial.stock.Stock.{Stock}
 use Rattle.mls_design.specs.Trial.{routes, words_before, earlier_lanes, resent_lanes}
 
--- a lane's number with the number of its events
-pub record Stock : Type 0 where
-  pub lane : ℕ
-  pub events : ℕ
-
--- those of a rank among lanes that are numbered from a number on
+-- the numbers of a rank's lanes with those of their events, among lanes that are numbered from a number on
 unfoldable pub stocks : ℕ → ℕ → List Lane → List Stock
 stocks rank from lanes = flat_map (λ (p : ℕ × Lane). cond (p.1.rank == rank) (record { lane = p.0; events = length p.1.frames } ∷ []) []) (enumerate_from from lanes)
 

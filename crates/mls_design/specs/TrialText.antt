@@ -1,5 +1,5 @@
 -- The summary of trial.
-use Rattle.std.specs.Prelude.{ℕ, List, ◌∷◌, [], ◌++◌, length, map, pos, ℤ, unwrap_or, unsigned_abs, codes, decimal}
+use Rattle.std.specs.Prelude.{◌≡◌, ◌<◌, ℕ, List, ◌∷◌, [], ◌++◌, length, map, pos, ℤ, unwrap_or, unsigned_abs, codes, decimal}
 use Rattle.std.specs.Fmt.{signed_decimal}
 use Rattle.std.specs.List.{flat_map}
 use Rattle.mls_model.specs.Numbers.{below, joined, sum_ints}
@@ -24,8 +24,11 @@ unfoldable pub accepted_counts : Sizes → (ℕ → List LaneEvent) → List ℤ
 accepted_counts s histories = flat_map (λ rank. map (λ plane. pos (length (accepted s rank plane (pieces_of s rank (histories rank))))) (below (planes s))) (below s.ranks)
 
 -- groups LEAST GREATEST
+unfoldable pub groups_text : (fewest most : ℕ) → List ℕ
+groups_text fewest most = joined (codes "groups " ∷ decimal fewest ∷ codes " " ∷ decimal most ∷ codes "\n" ∷ [])
+
 unfoldable pub groups_line : Sizes → (ℕ → List LaneEvent) → List ℕ
-groups_line s histories = joined (codes "groups " ∷ decimal (unsigned_abs (unwrap_or (least (accepted_counts s histories)) (pos 0))) ∷ codes " " ∷ decimal (unsigned_abs (unwrap_or (most (accepted_counts s histories)) (pos 0))) ∷ codes "\n" ∷ [])
+groups_line s histories = groups_text (unsigned_abs (unwrap_or (least (accepted_counts s histories)) (pos 0))) (unsigned_abs (unwrap_or (most (accepted_counts s histories)) (pos 0)))
 
 -- what f gives of the values A and B of each plane and cell, added up
 unfoldable pub over_cells : Sizes → (ℕ → List LaneEvent) → (List ℤ → ℤ) → ℤ
@@ -42,3 +45,7 @@ histories_summary s histories = rank_lines (history_counts s histories) ++ (grou
 -- The summary of a trial, from the lanes and the lists of its schedule.
 unfoldable pub trial_summary : Study → ℕ → List Lane → List (List ℕ) → List ℕ
 trial_summary study number lanes orders = trial_title number ++ (lanes_line lanes ++ histories_summary study.sizes (histories_of lanes orders))
+
+-- Under these lists each rank accepts all groups in each plane. No group is accepted twice.
+abbrev pub AcceptsAll : Sizes → List Lane → List (List ℕ) → Type 0
+AcceptsAll s lanes orders = (rank plane : ℕ) → rank < s.ranks → plane < planes s → length (accepted s rank plane (pieces_of s rank (histories_of lanes orders rank))) ≡ s.groups

@@ -18,4 +18,4 @@ pub use design::Design;
 pub use piece::make_piece;
 pub use solver::solve;
 pub use text::write_design;
-pub use trial::{MakeFault, Size, tape_size};
+pub use trial::{Made, MakeFault, Size, make_tape, tape_size};

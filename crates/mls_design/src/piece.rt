@@ -1,6 +1,6 @@
 //! The pieces that a group sends.
 
-ghost use Rattle.std.specs.Prelude.{◌≡◌, ℕ, ◌+◌, ◌<◌, ◌≤◌, ◌++◌, length, map, IfOk, OnOk};
+ghost use Rattle.std.specs.Prelude.{◌≡◌, ℕ, ◌+◌, ◌%◌, ◌<◌, ◌≤◌, ◌++◌, length, map, IfOk, OnOk};
 ghost use Rattle.std.specs.List.{flat_map};
 ghost use Rattle.mls_model.specs.Numbers.{below};
 ghost use Rattle.mls_model.specs.Blocks.{width};
@@ -16,6 +16,53 @@ use mls_frame::{Frame, Piece, Samples};
 use mls_model::blocks::Span;
 use mls_study::Study;
 use std::alloc::Global;
+
+/// What the solver makes of a simulation's inputs at four shifts in a row. The weights go by the shift modulo 4, so it
+/// is the same again at the four shifts after them.
+#[derive(Clone, Copy, Debug)]
+struct Cycle {
+    first: u16,
+    second: u16,
+    third: u16,
+    fourth: u16,
+}
+
+/// The responses from a shift on.
+fn cycle_of(inputs: &[u16], shift: u32) -> Cycle
+    requires some { 1 ≤ length inputs.now }
+    requires few { length inputs.now ≤ 16 }
+    requires shift { shift + 3 < 2097152 }
+    requires fits { (shift : ℕ) → response shift inputs.now ≤ 65535 }
+    ensures first { result.first ≡ response shift inputs.now }
+    ensures second { result.second ≡ response (shift + 1) inputs.now }
+    ensures third { result.third ≡ response (shift + 2) inputs.now }
+    ensures fourth { result.fourth ≡ response (shift + 3) inputs.now }
+{
+    Cycle {
+        first: response(inputs, shift) as u16,
+        second: response(inputs, shift + 1) as u16,
+        third: response(inputs, shift + 2) as u16,
+        fourth: response(inputs, shift + 3) as u16,
+    }
+}
+
+/// The response at a place behind the first.
+fn response_at(cycle: Cycle, place: u32) -> u16
+    ensures { (f : ℕ → ℕ) → cycle.first ≡ f 0 → cycle.second ≡ f 1 → cycle.third ≡ f 2 → cycle.fourth ≡ f 3 →
+        result ≡ f (place % 4) }
+{
+    let turn = place % 4;
+    if turn == 0 {
+        return cycle.first;
+    }
+    if turn == 1 {
+        return cycle.second;
+    }
+    if turn == 2 {
+        return cycle.third;
+    }
+    cycle.fourth
+}
 
 /// Adds the samples of a simulation with these inputs over a run of cells.
 fn add_row(
@@ -35,9 +82,9 @@ fn add_row(
     ensures { let row = map (λ x. response (cells.first + x + step + field) inputs.now) (below (width cells)) in
         OnOk result (samples.new ≡ samples.old ++ row) }
 {
+    let cycle = cycle_of(inputs, cells.first + step + field);
     for place in 0..cells.end - cells.first {
-        let sample = response(inputs, cells.first + place + step + field);
-        samples.push(sample as u16)?;
+        samples.push(response_at(cycle, place))?;
     }
     Ok(())
 }

@@ -6,6 +6,7 @@ ghost use Rattle.mls_model.specs.Designs.{word};
 ghost use Rattle.mls_design.specs.Trial.{is_restarted, copies};
 ghost use Rattle.mls_design.specs.TrialSizes.{HasDrawn, copies_from};
 
+use crate::words::STREAM;
 use mls_base::faults::NoMemory;
 use rand_core::utils::NextWord;
 use rand_pcg::Lcg64Xsh32;
@@ -55,4 +56,13 @@ pub fn copies_drawn(words: &mut Lcg64Xsh32, count: u64) -> u64
         sum += copies(next(words)) as u64;
     }
     sum
+}
+
+/// The words of a number behind those of its groups.
+pub fn behind_groups(number: u64, groups: u32) -> Lcg64Xsh32
+    ensures { HasDrawn number groups result }
+{
+    let mut words = Lcg64Xsh32::new(number, STREAM);
+    let _written = copies_drawn(&mut words, groups as u64);
+    words
 }
