@@ -1,12 +1,12 @@
 -- The sum of the counts of all bins.
-use Rattle.std.proofs.Common.{◌≡◌, ◌≢◌, ℕ, zero, suc, ◌+◌, ◌*◌, ◌/◌, ◌<◌, ◌≤◌, ◌==◌, Bool, true, false, cond, List, [], ◌∷◌, ◌++◌, length, map, take, get_or, inl, inr, ap, ◌∙◌, refl, sym, subst, arith}
+use Rattle.std.proofs.Common.{◌≡◌, ◌≢◌, ℕ, zero, suc, ◌+◌, ◌<◌, ◌≤◌, List, length, map, take, get_or, inl, inr, ap, ◌∙◌, refl, subst, arith}
 use Rattle.std.specs.Prelude.{sum}
 use Rattle.std.proofs.lemmas.Bool.{cases_lt, eq-eqb, ne_eqb, cond-true, cond-false}
-use Rattle.std.proofs.lemmas.List.{map-append, length-map}
-use Rattle.std.proofs.lemmas.List.Sums.{sum_by_push, get_or-le-sum_by}
+use Rattle.std.proofs.lemmas.List.{length-map}
+use Rattle.std.proofs.lemmas.List.Sums.{get_or-le-sum_by}
 use Rattle.mls_model.specs.Numbers.{below}
 use Rattle.mls_field.proofs.Rows.{length-below, entry_of, same_entries}
-use Rattle.mls_hist.specs.Bins.{bin_of, is_in, count_in, bins_of}
+use Rattle.mls_hist.specs.Bins.{bin_of, count_in, bins_of}
 use Rattle.mls_hist.specs.Histograms.{count_at, counts_at}
 use Rattle.mls_hist.proofs.Columns.{one}
 use Rattle.std.specs.Int.{w32}

@@ -1,5 +1,5 @@
 -- A list by its entries, and the counts of a cell.
-use Rattle.std.proofs.Common.{◌≡◌, ℕ, zero, suc, ◌+◌, ◌*◌, ◌<◌, ◌≤◌, List, [], ◌∷◌, ◌++◌, length, map, take, get_or, inl, inr, ap, ◌∙◌, refl, sym, subst, arith}
+use Rattle.std.proofs.Common.{◌≡◌, ℕ, zero, suc, ◌+◌, ◌*◌, ◌<◌, ◌≤◌, List, [], ◌∷◌, ◌++◌, length, map, take, get_or, inl, inr, ap, ◌∙◌, refl, sym, arith}
 use Rattle.std.specs.Prelude.{sum, Option, Some, None, IsNone, ◌↔◌}
 use Rattle.std.proofs.lemmas.Bool.{cases_lt}
 use Rattle.mls_model.specs.CellSums.{both}
@@ -10,12 +10,12 @@ use Rattle.mls_model.specs.Studies.{planes}
 use Rattle.mls_field.proofs.Texts.{take_more}
 use Rattle.mls_field.proofs.Rows.{same_entries, entry_of, length-shifted_outputs}
 use Rattle.mls_hist.specs.declared.hist.Hist.{Hist}
-use Rattle.mls_hist.specs.Histograms.{cell_start, count_at}
+use Rattle.mls_hist.specs.Histograms.{cell_start}
 use Rattle.mls_hist.specs.Stands.{row_count, StandsFor, bin_count, bin_counts}
 use Rattle.mls_hist.specs.Quartiles.{bracket, bracket_in}
 use Rattle.mls_hist.proofs.QuartileBins.{no_samples, some_samples, bracket_is}
 use Rattle.mls_hist.proofs.Parts.{counts_of_rows}
-use Rattle.mls_hist.proofs.Sums.{take_whole, total}
+use Rattle.mls_hist.proofs.Sums.{take_whole}
 use Rattle.mls_hist.proofs.Counting.{in_total, counts_opened}
 use Rattle.mls_hist.proofs.RowsAdded.{count_opened}
 

@@ -1,5 +1,5 @@
 -- The counts of no rows.
-use Rattle.std.proofs.Common.{◌≡◌, ℕ, ◌+◌, ◌*◌, ◌<◌, ◌≤◌, List, [], length, get_or, ap, ◌∙◌, refl, sym, arith}
+use Rattle.std.proofs.Common.{◌≡◌, ℕ, ◌+◌, ◌*◌, ◌<◌, ◌≤◌, List, length, get_or, ap, ◌∙◌, sym, arith}
 use Rattle.std.specs.Prelude.{sum}
 use Rattle.mls_model.specs.Studies.{Sizes, planes}
 use Rattle.mls_model.specs.Blocks.{block, width}
@@ -7,7 +7,7 @@ use Rattle.mls_model.specs.Standing.{empty_table}
 use Rattle.mls_field.proofs.Zeros.{AreZeros}
 use Rattle.mls_hist.specs.Bins.{count_in}
 use Rattle.mls_hist.specs.Waiting.{column, plane_start}
-use Rattle.mls_hist.specs.Histograms.{cell_start, count_at, counts_at, IsHist, HoldsTable}
+use Rattle.mls_hist.specs.Histograms.{cell_start, count_at, IsHist, HoldsTable}
 use Rattle.mls_hist.proofs.Columns.{column-none, count-none}
 use Rattle.mls_hist.proofs.Counting.{total-zero, counts_opened}
 use Rattle.mls_hist.proofs.RowsAdded.{count_opened}

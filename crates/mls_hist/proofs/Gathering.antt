@@ -1,5 +1,5 @@
 -- Samples that were put where they wait.
-use Rattle.std.proofs.Common.{◌≡◌, ℕ, ◌+◌, ◌*◌, ◌<◌, ◌≤◌, Bool, List, length, get_or, set, ap, ◌∙◌, refl, sym, subst, arith, get_or-set_same, get_or-set_other}
+use Rattle.std.proofs.Common.{◌≡◌, ℕ, ◌+◌, ◌*◌, ◌<◌, ◌≤◌, Bool, List, length, get_or, set, ap, ◌∙◌, sym, arith, get_or-set_same, get_or-set_other}
 use Rattle.mls_model.specs.Samples.{shifted}
 use Rattle.mls_field.proofs.Added.{each_place}
 use Rattle.mls_hist.specs.Bins.{count_in}

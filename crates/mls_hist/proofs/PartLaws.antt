@@ -1,15 +1,15 @@
 -- The counts of cells are read again, and what is read is valid and spelled.
-use Rattle.std.proofs.Common.{◌≡◌, ℕ, ◌+◌, ◌-◌, ◌*◌, ◌<◌, ◌≤◌, ◌==◌, List, [], ◌∷◌, ◌++◌, length, slice_index, Ok, append_assoc, refl, sym, ap, subst, ◌∙◌, arith}
+use Rattle.std.proofs.Common.{◌≡◌, ℕ, ◌+◌, ◌-◌, ◌*◌, ◌<◌, ◌≤◌, ◌==◌, List, [], ◌∷◌, ◌++◌, slice_index, Ok, append_assoc, refl, sym, ap, subst, ◌∙◌, arith}
 use Rattle.std.proofs.lemmas.List.Sums.{sum_by-cons}
 use Rattle.std.specs.Prelude.{⊤, sum}
 use Rattle.std.specs.Int.{w32}
-use Rattle.mls_model.specs.Studies.{Sizes, AreSizes, planes}
+use Rattle.mls_model.specs.Studies.{Sizes, planes}
 use Rattle.mls_model.specs.Blocks.{block, width}
 use Rattle.mls_ckpt.specs.declared.faults.CkptWhy.TheVariants as why
 use Rattle.mls_ckpt.specs.Reading.{Cursor, rule, test, number_at, fixed_at, many, text, texts, AllFrom, AreBytes}
 use Rattle.mls_ckpt.specs.States.{after_one}
 use Rattle.mls_ckpt.specs.Checkpoints.{room_after}
-use Rattle.mls_ckpt.specs.Laws.{IsReadPart, IsPartIn, AreFew, ReadsParts}
+use Rattle.mls_ckpt.specs.Laws.{IsReadPart, IsPartIn, ReadsParts}
 use Rattle.mls_ckpt.proofs.Numbers.{Taken, IsRead, same_ok, number_again, number_taken}
 use Rattle.mls_ckpt.proofs.Steps.{both, passed, many_again, many_taken, texts-front, text-front, row-front, row_again, row_taken}
 use Rattle.mls_ckpt.proofs.Passing.{same_of, of_same}

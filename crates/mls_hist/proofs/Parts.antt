@@ -1,5 +1,5 @@
 -- The part of a checkpoint that spells the counts of a rank's block.
-use Rattle.std.proofs.Common.{◌≡◌, ℕ, zero, suc, ◌+◌, ◌*◌, ◌<◌, ◌≤◌, List, [], ◌∷◌, ◌++◌, length, map, get_or, inl, inr, append-nil, ap, ◌∙◌, refl, sym, subst, arith}
+use Rattle.std.proofs.Common.{◌≡◌, ℕ, zero, suc, ◌<◌, ◌≤◌, List, [], ◌∷◌, ◌++◌, length, map, get_or, inl, inr, append-nil, ap, ◌∙◌, refl, sym, subst, arith}
 use Rattle.std.proofs.lemmas.Bool.{cases_lt}
 use Rattle.std.proofs.lemmas.List.{map-append, length-map, get_or_at, get_or_append_left}
 use Rattle.mls_model.specs.Numbers.{below}
@@ -15,9 +15,8 @@ use Rattle.mls_field.specs.PutBytes.{Grown}
 use Rattle.mls_field.proofs.OneRow.{get_or-beyond}
 use Rattle.mls_field.proofs.Rows.{length-below, entry_of}
 use Rattle.mls_field.proofs.CellRules.{all_below, same_maps}
-use Rattle.mls_hist.specs.Bins.{count_in, bins_of}
+use Rattle.mls_hist.specs.Bins.{bins_of}
 use Rattle.mls_hist.specs.HistPart.{mark, IsCounts, IsPlane, AreCells, IsHistPart, part_at, counts_text, hist_text, hist_part, counts_of}
-use Rattle.mls_hist.specs.Histograms.{count_at, counts_at}
 use Rattle.mls_hist.specs.declared.hist.Hist.{Hist}
 use Rattle.mls_hist.specs.Stands.{row_count, StandsFor, bin_count, bin_counts}
 use Rattle.mls_hist.specs.Spelled.{cells_of_plane, cells_of_hist, part_of_hist}

@@ -1,14 +1,13 @@
 -- The bin of a quartile: what the counts of bins say of it, and that it is the sorted list's.
-use Rattle.std.proofs.Common.{◌≡◌, ◌≢◌, ℕ, zero, suc, ◌+◌, ◌-◌, ◌*◌, ◌/◌, ◌<◌, ◌≤◌, ◌==◌, Bool, true, false, not, ◌&&◌, cond, List, [], ◌∷◌, ◌++◌, length, map, take, drop, get_or, nat_lt, nat_le, set, inl, inr, ap, ◌∙◌, refl, sym, subst, arith, get_or-set_same, get_or-set_other}
+use Rattle.std.proofs.Common.{◌≡◌, ◌≢◌, ℕ, zero, suc, ◌+◌, ◌-◌, ◌*◌, ◌<◌, ◌≤◌, ◌==◌, Bool, true, false, not, ◌&&◌, cond, List, [], ◌∷◌, length, take, get_or, nat_lt, nat_le, set, inl, inr, ap, ◌∙◌, refl, sym, subst, arith, get_or-set_same, get_or-set_other}
 use Rattle.std.specs.Prelude.{sum, sum_by, count_by, find, Option, Some, None}
 use Rattle.std.specs.List.{position_or_len}
-use Rattle.std.specs.List.Sorted.{IsPermutation, IsNonDecreasing}
+use Rattle.std.specs.List.Sorted.{IsPermutation}
 use Rattle.std.specs.Option.{option_map}
-use Rattle.std.proofs.lemmas.Bool.{cases_lt, cases_order, lt-ltb}
+use Rattle.std.proofs.lemmas.Bool.{cases_lt, cases_order}
 use Rattle.std.proofs.lemmas.Bool.Decides.{nat_tests}
-use Rattle.std.proofs.lemmas.Nat.{mul-le, le-div}
-use Rattle.std.proofs.lemmas.List.{map-append, length-map, length-append, take-append-le, get_or_at, get_or_append_left, length-take}
-use Rattle.std.proofs.lemmas.List.Sums.{sum_by-cons, sum_by_push, sum_by-take-drop, sum_by-le, count_by-le-length, fails_before_first, passes_at_first, prefix_len-le-length, position_or_len_is, sum_by_more}
+use Rattle.std.proofs.lemmas.Nat.{mul-le}
+use Rattle.std.proofs.lemmas.List.Sums.{sum_by-cons, fails_before_first, passes_at_first, prefix_len-le-length, position_or_len_is, sum_by_more}
 use Rattle.std.proofs.lemmas.List.Sorted.{sum_by-IsPermutation}
 use Rattle.mls_model.specs.Numbers.{below}
 use Rattle.mls_hist.specs.Bins.{bin_of, is_in, count_in, bins_of}

@@ -1,10 +1,8 @@
 -- What a row at each place of a plane does to the counts.
-use Rattle.std.proofs.Common.{◌≡◌, ◌≢◌, ℕ, suc, ◌+◌, ◌*◌, ◌<◌, ◌≤◌, Bool, List, [], ◌∷◌, ◌++◌, length, map, get_or, set, inl, inr, append_assoc, ap, ◌∙◌, refl, sym, subst, arith, length-set, get_or-set_same, get_or-set_other}
+use Rattle.std.proofs.Common.{◌≡◌, ◌≢◌, ℕ, ◌+◌, ◌*◌, ◌<◌, ◌≤◌, Bool, List, [], ◌∷◌, ◌++◌, length, get_or, set, inl, inr, append_assoc, ap, ◌∙◌, refl, sym, subst, arith, length-set, get_or-set_same, get_or-set_other}
 use Rattle.std.specs.Prelude.{sum}
 use Rattle.std.proofs.lemmas.Bool.{cases_order}
-use Rattle.mls_model.specs.Numbers.{below}
 use Rattle.mls_model.specs.Studies.{Sizes, planes}
-use Rattle.mls_model.specs.Blocks.{block, width}
 use Rattle.mls_model.specs.CellSums.{both}
 use Rattle.mls_model.specs.Samples.{shifted}
 use Rattle.mls_model.specs.Standing.{Table, with_block}

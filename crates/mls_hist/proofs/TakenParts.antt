@@ -1,5 +1,5 @@
 -- A part that was read, and the histograms that it makes.
-use Rattle.std.proofs.Common.{◌≡◌, ℕ, ◌+◌, ◌*◌, ◌<◌, ◌≤◌, List, [], ◌++◌, length, map, get_or, Ok, Err, ap, ◌∙◌, refl, sym, subst, arith}
+use Rattle.std.proofs.Common.{◌≡◌, ℕ, ◌+◌, ◌*◌, ◌<◌, ◌≤◌, List, ◌++◌, length, map, get_or, Ok, Err, ap, ◌∙◌, refl, sym, arith}
 use Rattle.std.specs.Prelude.{sum, Result, OnOk}
 use Rattle.std.specs.Int.{w32}
 use Rattle.mls_model.specs.Numbers.{below}

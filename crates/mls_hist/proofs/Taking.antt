@@ -1,7 +1,7 @@
 -- Counts that were read into a list.
-use Rattle.std.proofs.Common.{◌≡◌, ℕ, suc, ◌+◌, ◌-◌, ◌*◌, ◌<◌, ◌≤◌, ◌==◌, List, [], ◌∷◌, ◌++◌, length, map, get_or, set, Ok, Err, true, false, nat_lt, ap, ◌∙◌, refl, sym, subst, arith, get_or-set_same, get_or-set_other}
-use Rattle.std.specs.Prelude.{sum, Result, IsErrAnd}
-use Rattle.std.specs.Int.{Width, w32, byte_len}
+use Rattle.std.proofs.Common.{◌≡◌, ℕ, suc, ◌+◌, ◌-◌, ◌*◌, ◌<◌, ◌≤◌, ◌==◌, List, [], ◌∷◌, ◌++◌, length, map, get_or, set, Ok, Err, true, false, nat_lt, ap, ◌∙◌, refl, sym, arith, get_or-set_same, get_or-set_other}
+use Rattle.std.specs.Prelude.{sum}
+use Rattle.std.specs.Int.{w32, byte_len}
 use Rattle.std.proofs.lemmas.Bool.Decides.{nat_tests}
 use Rattle.std.proofs.lemmas.List.{map-append}
 use Rattle.std.proofs.lemmas.List.Sums.{sum_by_push}
@@ -11,12 +11,12 @@ use Rattle.mls_model.specs.Blocks.{block, width}
 use Rattle.mls_ckpt.specs.declared.faults.CkptWhy.TheVariants as why
 use Rattle.mls_ckpt.specs.declared.faults.RecoverFault.{RecoverFault}
 use Rattle.mls_ckpt.specs.declared.faults.RecoverFault.TheVariants.{Bad, Memory}
-use Rattle.mls_ckpt.specs.Reading.{Cursor, Read, Refuses, ◌>>=◌, number_at, many, front as first_number, behind}
+use Rattle.mls_ckpt.specs.Reading.{Cursor, Refuses, number_at, many, front as first_number, behind}
 use Rattle.mls_ckpt.specs.States.{after_one}
 use Rattle.mls_ckpt.specs.Checkpoints.{room_after}
 use Rattle.mls_ckpt.proofs.Numbers.{chosen, same_ok}
 use Rattle.mls_field.specs.Answered.{before}
-use Rattle.mls_field.proofs.Grid.{plane_before, cell_fits}
+use Rattle.mls_field.proofs.Grid.{plane_before}
 use Rattle.mls_field.proofs.Rows.{same_entries}
 use Rattle.mls_field.proofs.CellRules.{same_maps}
 use Rattle.mls_field.proofs.ReadInOrder.{goes_on, is_refused, all_read, none_read}

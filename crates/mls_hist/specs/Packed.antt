@@ -1,5 +1,5 @@
 -- The counts of cells as they lie in a list, with no row that waits.
-use Rattle.std.specs.Prelude.{◌≡◌, ℕ, ◌+◌, ◌*◌, ◌<◌, ◌≤◌, List, map, slice_index}
+use Rattle.std.specs.Prelude.{◌≡◌, ℕ, ◌+◌, ◌<◌, ◌≤◌, List, map, slice_index}
 use Rattle.mls_model.specs.Numbers.{below}
 use Rattle.mls_hist.specs.Histograms.{cell_start}
 

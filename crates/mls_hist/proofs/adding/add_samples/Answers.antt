@@ -1,4 +1,4 @@
-use Rattle.std.proofs.Common.{ℕ, ◌+◌, ◌*◌, ◌≤◌, get_or, refl, arith}
+use Rattle.std.proofs.Common.{◌+◌, ◌*◌, get_or, refl, arith}
 use Rattle.mls_hist.proofs.Counted.{counted_none, counted_on, counted_room}
 use Rattle.mls_hist.proofs.adding.add_samples.Goals as goal
 

@@ -1,6 +1,5 @@
 use Rattle.std.proofs.Common.{◌≡◌, ℕ, ◌+◌, ◌<◌, ◌≤◌, slice_index}
 use Rattle.mls_model.specs.Samples.{shifted}
-use Rattle.mls_hist.specs.Packed.{Within}
 use Rattle.mls_hist.proofs.adding.gather_row.Given as goal
 
 -- the places before the loop's have their values

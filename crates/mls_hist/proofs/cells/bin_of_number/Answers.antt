@@ -1,4 +1,4 @@
-use Rattle.std.proofs.Common.{sym, ◌+◌, ◌≤◌, arith}
+use Rattle.std.proofs.Common.{sym, arith}
 use Rattle.mls_hist.proofs.QuartileBins.{first_is, reach_is}
 use Rattle.mls_hist.proofs.cells.bin_of_number.Goals as goal
 

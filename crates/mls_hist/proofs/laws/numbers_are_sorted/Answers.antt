@@ -1,5 +1,4 @@
 use Rattle.std.proofs.lemmas.List.Sorted.{length_permutation}
-use Rattle.std.proofs.Common.{◌<◌, ◌≤◌, arith}
 use Rattle.mls_hist.proofs.QuartileBins.{sorted_number}
 use Rattle.mls_hist.proofs.laws.numbers_are_sorted.Goals as goal
 

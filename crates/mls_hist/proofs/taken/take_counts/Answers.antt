@@ -1,4 +1,4 @@
-use Rattle.std.proofs.Common.{ℕ, ◌+◌, ◌*◌, ◌-◌, ◌≤◌, ◌≡◌, get_or, refl, ap, ◌∙◌, sym, subst, arith, get_or-set_other}
+use Rattle.std.proofs.Common.{◌+◌, ◌*◌, refl, ◌∙◌, sym, subst, arith, get_or-set_other}
 use Rattle.mls_ckpt.specs.Places.{cursor_of}
 use Rattle.mls_ckpt.specs.declared.faults.RecoverFault.{RecoverFault}
 use Rattle.mls_ckpt.specs.Reading.{Refuses}

@@ -1,4 +1,3 @@
-use Rattle.std.proofs.Common.{List, ℕ}
 use Rattle.mls_model.specs.Studies.{planes}
 use Rattle.mls_ckpt.specs.Places.{cursor_of}
 use Rattle.mls_hist.specs.Packed.{packed_cells}

@@ -1,6 +1,6 @@
 use Rattle.std.proofs.Common.{◌≡◌, ℕ, ◌-◌, ◌*◌, ◌<◌, length, slice_index}
 use Rattle.std.specs.Prelude.{sum}
-use Rattle.mls_model.specs.Studies.{Sizes, planes}
+use Rattle.mls_model.specs.Studies.{Sizes}
 use Rattle.mls_model.specs.Blocks.{block, width}
 use Rattle.mls_ckpt.specs.Reading.{many}
 use Rattle.mls_ckpt.specs.States.{after_one}

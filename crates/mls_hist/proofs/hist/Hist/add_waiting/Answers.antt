@@ -1,11 +1,10 @@
-use Rattle.std.proofs.Common.{◌≡◌, ℕ, ◌+◌, ◌*◌, ◌<◌, ◌≤◌, ◌^◌, List, ◌++◌, length, take, drop, get_or, set, ap, ◌∙◌, refl, sym, subst, arith, length-set}
+use Rattle.std.proofs.Common.{◌≡◌, ℕ, ◌+◌, ◌*◌, ◌<◌, ◌≤◌, List, ◌++◌, length, take, drop, get_or, set, ap, ◌∙◌, sym, subst, arith, length-set}
 use Rattle.std.proofs.lemmas.List.{get_or_read}
 use Rattle.mls_model.specs.Samples.{shifted}
 use Rattle.mls_model.specs.Studies.{planes}
 use Rattle.mls_model.specs.Standing.{with_block}
 use Rattle.mls_field.specs.ShiftedRows.{shifted_row}
 use Rattle.mls_field.proofs.InPlace.{spliced, long_as_before}
-use Rattle.mls_field.proofs.Grid.{plane_before}
 use Rattle.mls_hist.specs.Histograms.{HoldsTable}
 use Rattle.mls_hist.proofs.RowsAdded.{Gathered, Added, Grew, adds, hist_grown, table_grown}
 use Rattle.mls_hist.proofs.Gathering.{gathered_from, added_from, waits_less, value_small}

@@ -1,4 +1,4 @@
-use Rattle.std.proofs.Common.{◌≡◌, ℕ, ◌*◌, ◌≤◌, List, ap, ◌∙◌, sym, arith}
+use Rattle.std.proofs.Common.{ℕ, ◌*◌, List, ap, ◌∙◌, sym}
 use Rattle.std.specs.Prelude.{sum}
 use Rattle.mls_hist.specs.Quartiles.{bracket_in}
 use Rattle.mls_hist.proofs.Entries.{counts_sum, none_of, bracket_of_rows}

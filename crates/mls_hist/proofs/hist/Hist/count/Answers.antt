@@ -1,5 +1,4 @@
-use Rattle.std.proofs.Common.{◌≡◌, ℕ, List, get_or, ap, ◌∙◌}
-use Rattle.mls_hist.specs.Stands.{bin_count}
+use Rattle.std.proofs.Common.{ℕ, List, get_or, ap, ◌∙◌}
 use Rattle.mls_hist.proofs.Entries.{entry_counts}
 use Rattle.mls_hist.proofs.Parts.{here}
 use Rattle.mls_hist.proofs.hist.Hist.count.Goals as goal

@@ -1,4 +1,4 @@
-use Rattle.std.proofs.Common.{◌+◌, ◌*◌, arith}
+use Rattle.std.proofs.Common.{arith}
 use Rattle.mls_model.specs.Studies.{planes}
 use Rattle.mls_field.proofs.Grid.{plane_before}
 use Rattle.mls_hist.proofs.hist.Hist.first_cell.Goals as goal

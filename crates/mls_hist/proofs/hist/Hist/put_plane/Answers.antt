@@ -1,4 +1,4 @@
-use Rattle.std.proofs.Common.{◌≡◌, List, ℕ, ap, sym, subst, arith}
+use Rattle.std.proofs.Common.{List, ℕ, subst, arith}
 use Rattle.mls_field.specs.PutBytes.{Grown}
 use Rattle.mls_hist.specs.HistPart.{counts_text}
 use Rattle.mls_hist.specs.Stands.{bin_counts}

@@ -1,8 +1,7 @@
-use Rattle.std.proofs.Common.{◌≡◌, ℕ, ◌+◌, ◌*◌, ◌<◌, ◌≤◌, ◌^◌, List, length, get_or, ap, ◌∙◌, sym, subst, arith}
-use Rattle.mls_model.specs.Studies.{planes}
+use Rattle.std.proofs.Common.{◌≡◌, ℕ, ◌+◌, ◌*◌, ◌<◌, length, get_or, ap, ◌∙◌, sym, arith}
 use Rattle.mls_field.proofs.Grid.{plane_before}
 use Rattle.mls_hist.specs.Bins.{count_in}
-use Rattle.mls_hist.specs.Waiting.{column, plane_start}
+use Rattle.mls_hist.specs.Waiting.{column}
 use Rattle.mls_hist.specs.Histograms.{cell_start}
 use Rattle.mls_hist.specs.Stands.{bin_count}
 use Rattle.mls_hist.proofs.Counting.{counts_opened}

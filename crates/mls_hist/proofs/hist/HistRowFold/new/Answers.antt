@@ -1,4 +1,4 @@
-use Rattle.std.proofs.Common.{◌≡◌, ℕ, ◌+◌, ◌-◌, ◌*◌, List, replicate, ap, arith}
+use Rattle.std.proofs.Common.{◌≡◌, ℕ, ◌-◌, ◌*◌, List, replicate, ap, arith}
 use Rattle.mls_model.specs.Studies.{planes}
 use Rattle.mls_model.specs.Blocks.{width}
 use Rattle.mls_field.proofs.Zeros.{AreZeros, zeros}

@@ -1,4 +1,4 @@
-use Rattle.std.proofs.Common.{ℕ, ◌*◌, List, ◌++◌, length, take, drop, ap, ◌∙◌, arith}
+use Rattle.std.proofs.Common.{◌*◌, ◌++◌, length, take, drop}
 use Rattle.mls_model.specs.Studies.{planes}
 use Rattle.mls_field.proofs.InPlace.{filled}
 use Rattle.mls_field.proofs.Zeros.{AreZeros, zeros}

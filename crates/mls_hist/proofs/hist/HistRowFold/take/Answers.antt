@@ -1,4 +1,4 @@
-use Rattle.std.proofs.Common.{◌≡◌, ℕ, ◌+◌, ◌-◌, ◌*◌, ◌≤◌, List, length, get_or, replicate, refl, ap, ◌∙◌, sym, subst, arith}
+use Rattle.std.proofs.Common.{◌≡◌, ℕ, ◌-◌, ◌*◌, ◌≤◌, List, length, get_or, replicate, refl, ap, ◌∙◌, sym, subst, arith}
 use Rattle.std.specs.Prelude.{sum}
 use Rattle.mls_model.specs.Studies.{planes}
 use Rattle.mls_model.specs.Blocks.{width}
