@@ -1,0 +1,13 @@
+pub mod Sums
+pub mod QuartileBins
+pub mod PartLaws
+pub mod Columns
+pub mod Counting
+pub mod Counted
+pub mod RowsAdded
+pub mod Parts
+pub mod Fresh
+pub mod Taking
+pub mod Entries
+pub mod TakenParts
+pub mod Gathering

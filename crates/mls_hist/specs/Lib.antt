@@ -1,0 +1,10 @@
+pub mod Bins
+pub mod Quartiles
+pub mod HistPart
+pub mod Waiting
+pub mod Histograms
+pub mod Stands
+pub mod Spelled
+pub mod Packed
+pub mod Passing
+pub mod BinsText
