@@ -1,0 +1,6 @@
+//! Laws over schedules: when the sums of a tape don't depend on the order in which its events are taken.
+//!
+//! Each public function here has an empty body: its contract is a law that holds of all tapes and schedules.
+#![tactic(auto)]
+
+pub mod permuted_rows;
