@@ -3,3 +3,7 @@ pub mod Statistics
 pub mod CellTexts
 pub mod KeptSums
 pub mod Turns
+pub mod Interleaved
+pub mod WholeKeys
+pub mod TapePieces
+pub mod Counted

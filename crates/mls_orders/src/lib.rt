@@ -3,4 +3,5 @@
 //! Each public function here has an empty body: its contract is a law that holds of all tapes and schedules.
 #![tactic(auto)]
 
+pub mod completed_keys;
 pub mod permuted_rows;
