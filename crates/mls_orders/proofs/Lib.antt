@@ -7,3 +7,7 @@ pub mod Interleaved
 pub mod WholeKeys
 pub mod TapePieces
 pub mod Counted
+pub mod Found
+pub mod Accepting
+pub mod GroupRows
+pub mod SameLines

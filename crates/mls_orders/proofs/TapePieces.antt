@@ -1,10 +1,9 @@
 -- The fitting pieces that survive in a rank's history are those of its lanes, in another order.
-use Rattle.std.proofs.Common.{◌≡◌, ℕ, ◌<◌, Bool, true, false, cond, eqb, List, [], ◌∷◌, IsPermutation, refl, sym, ◌∙◌, subst}
+use Rattle.std.proofs.Common.{◌≡◌, ℕ, Bool, true, false, cond, eqb, List, [], ◌∷◌, IsPermutation, refl, sym, ◌∙◌, subst}
 use Rattle.std.specs.List.{list_any, AllByRecursion}
 use Rattle.std.proofs.lemmas.Bool.{or_from}
 use Rattle.std.proofs.lemmas.List.Folds.{list_any-append}
 use Rattle.std.proofs.lemmas.List.Sorted.{list_any-IsPermutation}
-use Rattle.mls_model.specs.Numbers.{times}
 use Rattle.mls_model.specs.Studies.{Sizes}
 use Rattle.mls_model.specs.Lanes.{Lane}
 use Rattle.mls_model.specs.Histories.{LaneEvent, history}
@@ -13,9 +12,9 @@ use Rattle.mls_model.specs.Fitting.{fitting, fitting_piece}
 use Rattle.mls_model.specs.ResultText.{pieces_of, histories_of, order_at}
 use Rattle.mls_model.specs.Schedules.{is_complete, plain}
 use Rattle.mls_laws.proofs.Surviving.{surviving_all}
-use Rattle.mls_orders.specs.Tapes.{lane_events, rank_events, tape_pieces}
+use Rattle.mls_orders.specs.Tapes.{lane_events, rank_events, tape_pieces, TakesTheTape}
 use Rattle.mls_orders.proofs.Permuting.{filter_mapped}
-use Rattle.mls_orders.proofs.Turns.{turns, complete_turns, plain_turns}
+use Rattle.mls_orders.proofs.Turns.{complete_turns, plain_turns}
 use Rattle.mls_orders.proofs.Interleaved.{history_permuted}
 
 calm_lane : (b : Bool) (lane : Lane) → list_any is_crash (lane_events lane) ≡ false → list_any is_crash (cond b (lane_events lane) []) ≡ false
@@ -32,21 +31,15 @@ fitting_permuted : (s : Sizes) (rank : ℕ) (xs ys : List LaneEvent) → IsPermu
 unfolding fitting
 fitting_permuted s rank xs ys h = filter_mapped (fitting_piece s rank) xs ys h
 
-pieces_by_turns : (s : Sizes) (lanes : List Lane) (rank : ℕ) (order : List ℕ) → AllByRecursion (λ (lane : Lane). list_any is_crash (lane_events lane) ≡ false) lanes → ((k : ℕ) → times k order ≡ turns lanes rank k) → IsPermutation (pieces_of s rank (history lanes order)) (tape_pieces s lanes rank)
-pieces_by_turns s lanes rank order calm full =
-    let moved : IsPermutation (history lanes order) (rank_events lanes rank) = history_permuted lanes rank order full in
-    let none : list_any is_crash (history lanes order) ≡ false = list_any-IsPermutation is_crash _ _ moved ∙ calm_rank lanes rank calm in
-    subst (λ es. IsPermutation (fitting s rank es) (tape_pieces s lanes rank)) (sym (surviving_all (history lanes order) none)) (fitting_permuted s rank _ _ moved)
+-- of a history that has the events of the rank's lanes
+pub tape_permuted : (s : Sizes) (lanes : List Lane) (rank : ℕ) (history : List LaneEvent) → AllByRecursion (λ (lane : Lane). list_any is_crash (lane_events lane) ≡ false) lanes → IsPermutation history (rank_events lanes rank) → IsPermutation (pieces_of s rank history) (tape_pieces s lanes rank)
+tape_permuted s lanes rank history calm moved =
+    let none : list_any is_crash history ≡ false = list_any-IsPermutation is_crash _ _ moved ∙ calm_rank lanes rank calm in
+    subst (λ es. IsPermutation (fitting s rank es) (tape_pieces s lanes rank)) (sym (surviving_all history none)) (fitting_permuted s rank _ _ moved)
 
--- under a complete schedule, and under the plain one
-pub complete_history : (ranks : ℕ) (lanes : List Lane) (orders : List (List ℕ)) (rank : ℕ) → is_complete ranks lanes orders ≡ true → IsPermutation (histories_of lanes orders rank) (rank_events lanes rank)
-complete_history ranks lanes orders rank complete = history_permuted lanes rank (order_at orders rank) (complete_turns ranks lanes orders complete rank)
+-- the histories of a complete schedule, and of the plain one
+pub complete_takes : (ranks : ℕ) (lanes : List Lane) (orders : List (List ℕ)) → is_complete ranks lanes orders ≡ true → TakesTheTape ranks lanes (histories_of lanes orders)
+complete_takes ranks lanes orders complete = λ rank within. history_permuted lanes rank (order_at orders rank) (complete_turns ranks lanes orders complete rank)
 
-pub plain_history : (ranks : ℕ) (lanes : List Lane) (rank : ℕ) → rank < ranks → IsPermutation (histories_of lanes (plain ranks lanes) rank) (rank_events lanes rank)
-plain_history ranks lanes rank within = history_permuted lanes rank (order_at (plain ranks lanes) rank) (λ k. plain_turns ranks lanes rank k within)
-
-pub complete_pieces : (s : Sizes) (lanes : List Lane) (orders : List (List ℕ)) (rank : ℕ) → AllByRecursion (λ (lane : Lane). list_any is_crash (lane_events lane) ≡ false) lanes → is_complete s.ranks lanes orders ≡ true → IsPermutation (pieces_of s rank (histories_of lanes orders rank)) (tape_pieces s lanes rank)
-complete_pieces s lanes orders rank calm complete = pieces_by_turns s lanes rank (order_at orders rank) calm (complete_turns s.ranks lanes orders complete rank)
-
-pub plain_pieces : (s : Sizes) (lanes : List Lane) (rank : ℕ) → AllByRecursion (λ (lane : Lane). list_any is_crash (lane_events lane) ≡ false) lanes → rank < s.ranks → IsPermutation (pieces_of s rank (histories_of lanes (plain s.ranks lanes) rank)) (tape_pieces s lanes rank)
-plain_pieces s lanes rank calm within = pieces_by_turns s lanes rank (order_at (plain s.ranks lanes) rank) calm (λ k. plain_turns s.ranks lanes rank k within)
+pub plain_takes : (ranks : ℕ) (lanes : List Lane) → TakesTheTape ranks lanes (histories_of lanes (plain ranks lanes))
+plain_takes ranks lanes = λ rank within. history_permuted lanes rank (order_at (plain ranks lanes) rank) (λ k. plain_turns ranks lanes rank k within)

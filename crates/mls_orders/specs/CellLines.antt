@@ -1,13 +1,14 @@
 -- The rows that a tape gives, and the lines that are printed of them.
-use Rattle.std.specs.Prelude.{ℕ, ◌-◌, ◌&&◌, Bool, List, [], ◌==◌, Some, None}
+use Rattle.std.specs.Prelude.{ℕ, ◌-◌, ◌&&◌, Bool, List, [], ◌++◌, ◌==◌, Some, None}
 use Rattle.std.specs.List.{find}
 use Rattle.mls_model.specs.Studies.{Study, Sizes}
 use Rattle.mls_model.specs.Blocks.{client_of}
 use Rattle.mls_model.specs.Frames.{Piece}
-use Rattle.mls_model.specs.Lanes.{Lane}
+use Rattle.mls_model.specs.declared.lanes.LaneLine.{LaneLine}
+use Rattle.mls_model.specs.Histories.{LaneEvent}
 use Rattle.mls_model.specs.Completion.{Key, is_of_key}
 use Rattle.mls_model.specs.AcceptedRows.{samples_at}
-use Rattle.mls_model.specs.ResultText.{cells_text, rows_said, history_rows, histories_of}
+use Rattle.mls_model.specs.ResultText.{title, study_line, rank_lines, lane_lines, cells_text, rows_said, history_rows, history_counts}
 
 -- a piece of the key from this client, whatever its life
 abbrev pub is_from : Key → ℕ → Piece → Bool
@@ -22,5 +23,9 @@ unfoldable pub group_row : Sizes → ℕ → ℕ → List Piece → ℕ → List
 group_row s plane x pieces group = elim (client_of s x) [ None ↦ [] | Some client ↦ part_row (record { group = group; plane = plane }) x client pieces ]
 
 -- the step and cell lines of the result text
-unfoldable pub cell_lines : Study → List Lane → List (List ℕ) → List ℕ
-cell_lines study lanes orders = cells_text study (rows_said study (history_rows study.sizes (histories_of lanes orders)))
+unfoldable pub cell_lines : Study → (ℕ → List LaneEvent) → List ℕ
+cell_lines study histories = cells_text study (rows_said study (history_rows study.sizes histories))
+
+-- the lines before them
+unfoldable pub first_lines : Study → (ℕ → List LaneEvent) → List LaneLine → List ℕ
+first_lines study histories lines = title ++ (study_line study ++ (rank_lines (history_counts study.sizes histories) ++ lane_lines lines))

@@ -1,5 +1,6 @@
 -- What a tape gives a rank, whatever the order in which the rank takes it.
-use Rattle.std.specs.Prelude.{ℕ, cond, List, [], map, ◌==◌}
+use Rattle.std.specs.Prelude.{ℕ, ◌<◌, cond, List, [], map, ◌==◌}
+use Rattle.std.specs.List.Sorted.{IsPermutation}
 use Rattle.std.specs.List.{flat_map}
 use Rattle.mls_model.specs.Studies.{Sizes}
 use Rattle.mls_model.specs.Frames.{Piece}
@@ -15,6 +16,10 @@ lane_events lane = map (λ frame. record { kind = lane.kind; frame = frame }) la
 unfoldable pub rank_events : List Lane → ℕ → List LaneEvent
 rank_events lanes rank = flat_map (λ (lane : Lane). cond (lane.rank == rank) (lane_events lane) []) lanes
 
--- the fitting pieces among them
+-- Each rank's history has the events of the rank's lanes, each as often as the tape has it, in some order.
+abbrev pub TakesTheTape : ℕ → List Lane → (ℕ → List LaneEvent) → Type 0
+TakesTheTape ranks lanes histories = (rank : ℕ) → rank < ranks → IsPermutation (histories rank) (rank_events lanes rank)
+
+-- the fitting pieces among the events of a rank's lanes
 abbrev pub tape_pieces : Sizes → List Lane → ℕ → List Piece
 tape_pieces s lanes rank = fitting s rank (rank_events lanes rank)

@@ -5,3 +5,5 @@
 
 pub mod completed_keys;
 pub mod permuted_rows;
+pub mod result_lines;
+pub mod tape_rows;
