@@ -11,3 +11,4 @@ pub mod Found
 pub mod Accepting
 pub mod GroupRows
 pub mod SameLines
+pub mod PremiseTests

@@ -178,11 +178,11 @@ greatest_stands key (p ∷ pieces) h = ⊎_elim
 
 -- ---- a settled key
 
-some_of_key : (s : Sizes) (rank : ℕ) (key : Key) (pieces : List Piece) → some_life_has_all s rank key pieces ≡ true → list_any (is_of_key key) pieces ≡ true
+pub some_of_key : (s : Sizes) (rank : ℕ) (key : Key) (pieces : List Piece) → some_life_has_all s rank key pieces ≡ true → list_any (is_of_key key) pieces ≡ true
 unfolding some_life_has_all
 some_of_key s rank key pieces h = any_weaker (λ p. is_of_key key p && has_all_shares s rank key p.life pieces) (is_of_key key) (λ p t. (and_parts (is_of_key key p) (has_all_shares s rank key p.life pieces) t).0) pieces h
 
-never_without : (s : Sizes) (rank : ℕ) (key : Key) (pieces : List Piece) → ((life : ℕ) → has_all_shares s rank key life pieces ≡ false) → some_life_has_all s rank key pieces ≡ true → ⊥
+pub never_without : (s : Sizes) (rank : ℕ) (key : Key) (pieces : List Piece) → ((life : ℕ) → has_all_shares s rank key life pieces ≡ false) → some_life_has_all s rank key pieces ≡ true → ⊥
 unfolding some_life_has_all
 never_without s rank key pieces none h =
     let found = Any-from_list_any (λ p. is_of_key key p && has_all_shares s rank key p.life pieces) pieces h in

@@ -13,9 +13,10 @@ ghost use Rattle.mls_orders.specs.OrderFree.{IsOrderFree, some_life_has_all};
 /// Under a complete schedule each rank's history has the events of the rank's lanes, each as often as the tape has it,
 /// in some order. So it has under the plain schedule.
 pub fn schedules_take_the_tape()
-    ensures complete { (ranks : ℕ) (lanes : List Lane) (orders : List (List ℕ)) → is_complete ranks lanes orders ≡ true →
-        TakesTheTape ranks lanes (histories_of lanes orders) }
-    ensures plain { (ranks : ℕ) (lanes : List Lane) → TakesTheTape ranks lanes (histories_of lanes (plain ranks lanes)) }
+    ensures complete { (ranks : ℕ) (lanes : List Lane) (orders : List (List ℕ)) →
+        is_complete ranks lanes orders ≡ true → TakesTheTape ranks lanes (histories_of lanes orders) }
+    ensures plain { (ranks : ℕ) (lanes : List Lane) →
+        TakesTheTape ranks lanes (histories_of lanes (plain ranks lanes)) }
 {}
 
 /// On a tape that meets the premise a rank completes a key exactly where some life has a fitting piece of each client

@@ -5,5 +5,6 @@
 
 pub mod completed_keys;
 pub mod permuted_rows;
+pub mod premise;
 pub mod result_lines;
 pub mod tape_rows;
