@@ -1,6 +1,7 @@
 -- What a search in a list finds.
-use Rattle.std.proofs.Common.{◌≡◌, ℕ, zero, suc, ◌<◌, Bool, true, false, cond, List, [], ◌∷◌, ◌++◌, Option, Some, refl, sym, ap, ◌∙◌, subst, ⊎_elim, arith}
+use Rattle.std.proofs.Common.{◌≡◌, ℕ, zero, suc, ◌<◌, Bool, true, false, not, ◌||◌, cond, List, [], ◌∷◌, ◌++◌, Some, refl, sym, ap, ◌∙◌, subst, ⊎_elim, arith}
 use Rattle.std.specs.List.{list_any, list_all, find, AllByRecursion}
+use Rattle.std.proofs.lemmas.Option.{same_Some}
 use Rattle.std.proofs.lemmas.Bool.{cases_Bool, cases_eq, and_parts, or_cases, both_ways}
 use Rattle.std.proofs.lemmas.List.Folds.{list_all-append}
 use Rattle.mls_model.specs.Numbers.{below}
@@ -16,18 +17,20 @@ found test P (x ∷ xs) all h = ⊎_elim
     (rest.0, ap (λ (b : Bool). cond b (Some x) (find test xs)) f ∙ rest.1, rest.2, rest.3))
     (cases_Bool (test x))
 
-same_some : {X : Type 0} (x y : X) → ◌≡◌ {A = Option X} (Some x) (Some y) → x ≡ y
-same_some x y e = cc
-
 -- what is found passes the test, and what holds of all holds of it
 pub passes : {X : Type 0} (test : X → Bool) (P : X → Type 0) (xs : List X) (x : X) → AllByRecursion P xs → find test xs ≡ Some x → (test x ≡ true) × P x
 passes test P [] x all h = absurd cc
 passes {X} test P (y ∷ ys) x all h = ⊎_elim
     (λ t.
-    let same : y ≡ x = same_some y x (sym (ap (λ (b : Bool). cond b (Some y) (find test ys)) t) ∙ h) in
+    let same : y ≡ x = same_Some y x (sym (ap (λ (b : Bool). cond b (Some y) (find test ys)) t) ∙ h) in
     (ap test (sym same) ∙ t, subst P same all.0))
     (λ f. passes test P ys x all.1 (sym (ap (λ (b : Bool). cond b (Some y) (find test ys)) f) ∙ h))
     (cases_Bool (test y))
+
+-- of two tests of which the first fails or the second passes
+pub or_second : (a b : Bool) → (not a || b) ≡ true → a ≡ true → b ≡ true
+or_second true b h t = h
+or_second false b h t = absurd (both_ways false refl t)
 
 -- ---- the numbers below another
 

@@ -20,7 +20,7 @@ use Rattle.mls_laws.proofs.Places.{from_end}
 use Rattle.mls_laws.proofs.Completing.{same_key, own_key, completions_more, accepted_more}
 use Rattle.mls_orders.specs.OrderFree.{CarryTheSame}
 use Rattle.mls_orders.specs.CellLines.{is_from, part_row, group_row}
-use Rattle.mls_orders.proofs.Found.{found, passes, all_front, are_below, at_below}
+use Rattle.mls_orders.proofs.Found.{found, passes, or_second, all_front, are_below, at_below}
 
 -- what is known of a fitting piece of the tape
 pub record IsKnown (s : Sizes) (rank : ℕ) (tape : List Piece) (q : Piece) : Type 0 where
@@ -62,15 +62,12 @@ samples_same q r x rows first count samples = λ i. map (λ row. slice_index (sa
 fit_alike : (s : Sizes) (rank : ℕ) (q r : Piece) (x : ℕ) → Fits s rank q → Fits s rank r → q.client ≡ r.client → q.samples ≡ r.samples → samples_at q (x - q.first) ≡ samples_at r (x - r.first)
 fit_alike s rank q r x a b client samples = samples_same q r x (a.rows ∙ sym b.rows) (a.first ∙ ap (λ (c : ℕ). (overlap s rank c).first) client ∙ sym b.first) (a.count ∙ ap (λ (c : ℕ). width (overlap s rank c)) client ∙ sym b.count) samples
 
-or_second : (a b : Bool) → (not a || b) ≡ true → a ≡ true → b ≡ true
-or_second true b h t = h
-or_second false b h t = absurd cc
-
 completes_whole : (s : Sizes) (rank : ℕ) (ps : List Piece) (p : Piece) → completes s rank ps p ≡ true → has_all_shares s rank (key_of p) p.life (ps ++ p ∷ []) ≡ true
 unfolding completes makes_whole
 completes_whole s rank ps p h = (and_parts _ _ (and_parts _ _ h).0).1
 
-has_share : (s : Sizes) (rank : ℕ) (key : Key) (life client : ℕ) (pieces : List Piece) → has_all_shares s rank key life pieces ≡ true → client < s.clients → overlaps s rank client ≡ true → list_any (is_share key life client) pieces ≡ true
+-- where a life has all shares, it has one of each client that overlaps
+pub has_share : (s : Sizes) (rank : ℕ) (key : Key) (life client : ℕ) (pieces : List Piece) → has_all_shares s rank key life pieces ≡ true → client < s.clients → overlaps s rank client ≡ true → list_any (is_share key life client) pieces ≡ true
 has_share s rank key life client pieces all lt some = or_second (overlaps s rank client) _ (at_below (λ c. not (overlaps s rank c) || list_any (is_share key life c) pieces) s.clients client all lt) some
 
 from_option : (o : Option Piece) (q : Piece) (x : ℕ) → o ≡ Some q → elim o [ None ↦ [] | Some r ↦ samples_at r (x - r.first) ] ≡ samples_at q (x - q.first)

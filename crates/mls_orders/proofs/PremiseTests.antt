@@ -13,7 +13,8 @@ use Rattle.mls_model.specs.Completion.{Key, key_of, is_of_key, is_share, has_all
 use Rattle.mls_laws.proofs.Completing.{same_key, own_key}
 use Rattle.mls_orders.specs.Tapes.{lane_events, tape_pieces}
 use Rattle.mls_orders.specs.OrderFree.{greatest_life, CarryTheSame, IsSettled, IsOrderFree, some_life_has_all, is_crash_free, carry_the_same, all_carry_the_same, is_settled, all_settled, is_order_free}
-use Rattle.mls_orders.proofs.Found.{at_below}
+use Rattle.mls_orders.proofs.Found.{or_second, at_below}
+use Rattle.mls_orders.proofs.GroupRows.{has_share}
 use Rattle.mls_orders.proofs.WholeKeys.{any_weaker, some_of_key, never_without}
 
 -- ---- tests of all elements
@@ -62,10 +63,6 @@ same_itself : (xs : List ℕ) → same_bytes xs xs ≡ true
 same_itself [] = refl
 same_itself (x ∷ xs) = and_from (eqb x x) (same_bytes xs xs) (eq-eqb x x refl) (same_itself xs)
 
-or_second : (a b : Bool) → (not a || b) ≡ true → a ≡ true → b ≡ true
-or_second true b h t = h
-or_second false b h t = absurd (both_ways false refl t)
-
 carry_from_test : (p q : Piece) → carry_the_same p q ≡ true → CarryTheSame p q
 carry_from_test p q h key client =
     let own : is_of_key (key_of p) q ≡ true = ap (λ (k : Key). is_of_key k q) key ∙ own_key q in
@@ -89,20 +86,32 @@ one_fails test (suc n) h = ⊎_elim
     (λ f. (n, omega arith, ⊎_elim (λ e. e) (λ e. absurd (both_ways true e refl)) (and_cases (test n) true f)))
     (and_cases (list_all test (below n)) (list_all test (n ∷ [])) (sym (list_all-append test (below n) (n ∷ [])) ∙ h))
 
--- where a life has all shares and another one does not, the first has a piece
-has_piece : (s : Sizes) (rank : ℕ) (key : Key) (life top : ℕ) (pieces : List Piece) → has_all_shares s rank key life pieces ≡ true → has_all_shares s rank key top pieces ≡ false → some_life_has_all s rank key pieces ≡ true
+-- where a life has all shares and a piece, some life has all
+by_piece : (s : Sizes) (rank : ℕ) (key : Key) (life client : ℕ) (pieces : List Piece) → has_all_shares s rank key life pieces ≡ true → list_any (is_share key life client) pieces ≡ true → some_life_has_all s rank key pieces ≡ true
 unfolding some_life_has_all
-has_piece s rank key life top pieces all none =
-    let lacks = one_fails (λ client. not (overlaps s rank client) || list_any (is_share key top client) pieces) s.clients none in
-    let client : ℕ = lacks.0 in
-    let parts = or_parts (not (overlaps s rank client)) (list_any (is_share key top client) pieces) lacks.2 in
-    let share : list_any (is_share key life client) pieces ≡ true = or_second (overlaps s rank client) _ (at_below (λ c. not (overlaps s rank c) || list_any (is_share key life c) pieces) s.clients client all lacks.1) (not-false (overlaps s rank client) parts.0) in
+by_piece s rank key life client pieces all share =
     any_weaker (is_share key life client) (λ q. is_of_key key q && has_all_shares s rank key q.life pieces)
     (λ q t.
     let tests = and_parts (is_of_key key q && eqb q.life life) (eqb q.client client) t in
     let own = and_parts (is_of_key key q) (eqb q.life life) tests.0 in
     and_from _ _ own.0 (ap (λ (l : ℕ). has_all_shares s rank key l pieces) (eqb-true q.life life own.1) ∙ all))
     pieces share
+
+pub by_life : (s : Sizes) (rank : ℕ) (key : Key) (life client : ℕ) (pieces : List Piece) → client < s.clients → overlaps s rank client ≡ true → has_all_shares s rank key life pieces ≡ true → some_life_has_all s rank key pieces ≡ true
+by_life s rank key life client pieces lt some all = by_piece s rank key life client pieces all (has_share s rank key life client pieces all lt some)
+
+pub some_life : (s : Sizes) (rank : ℕ) (key : Key) (pieces : List Piece) → some_life_has_all s rank key pieces ≡ true → (life : ℕ) × (has_all_shares s rank key life pieces ≡ true)
+unfolding some_life_has_all
+some_life s rank key pieces h =
+    let at = Any-from_list_any (λ p. is_of_key key p && has_all_shares s rank key p.life pieces) pieces h in
+    ((at.1).life, (and_parts (is_of_key key at.1) (has_all_shares s rank key (at.1).life pieces) at.4).1)
+
+-- where a life has all shares and another one does not, the first has a piece
+has_piece : (s : Sizes) (rank : ℕ) (key : Key) (life top : ℕ) (pieces : List Piece) → has_all_shares s rank key life pieces ≡ true → has_all_shares s rank key top pieces ≡ false → some_life_has_all s rank key pieces ≡ true
+has_piece s rank key life top pieces all none =
+    let lacks = one_fails (λ client. not (overlaps s rank client) || list_any (is_share key top client) pieces) s.clients none in
+    let parts = or_parts (not (overlaps s rank lacks.0)) (list_any (is_share key top lacks.0) pieces) lacks.2 in
+    by_life s rank key life lacks.0 pieces lacks.1 (not-false (overlaps s rank lacks.0) parts.0) all
 
 settled_by : (s : Sizes) (rank : ℕ) (key : Key) (pieces : List Piece) → (some_life_has_all s rank key pieces ≡ true → has_all_shares s rank key (greatest_life key pieces) pieces ≡ true) → IsSettled s rank pieces key
 settled_by s rank key pieces top = ⊎_elim

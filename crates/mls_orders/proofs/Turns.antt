@@ -1,6 +1,7 @@
 -- How often each lane stands in a rank's list of a complete schedule.
 use Rattle.std.proofs.Common.{◌≡◌, ℕ, zero, suc, ◌+◌, ◌<◌, ◌≤◌, Bool, true, false, cond, eqb, leb, ◌&&◌, List, [], ◌∷◌, ◌++◌, length, map, replicate, Option, Some, None, unwrap_or, refl, sym, ap, ◌∙◌, subst, ⊎_elim, arith, eq-eqb, ne_eqb, eqb-true}
 use Rattle.std.specs.List.{list_all, flat_map, enumerate_from}
+use Rattle.std.proofs.lemmas.Option.{same_Some}
 use Rattle.std.proofs.lemmas.Bool.{cases_Bool, cases_eq, and_parts, and_left, both_ways}
 use Rattle.std.proofs.lemmas.List.{map_push, length-map, length_push}
 use Rattle.mls_model.specs.Numbers.{below, element, times, joined}
@@ -42,12 +43,9 @@ not_standing p k (x ∷ xs) all fails =
 
 -- ---- lanes by number
 
-same_some : {A : Type 0} (x y : A) → ◌≡◌ {A = Option A} (Some x) (Some y) → x ≡ y
-same_some x y e = cc
-
 lane_at_is : (lanes : List Lane) (q k : ℕ) (l : Lane) → element lanes k ≡ Some l → is_lane_of lanes q k ≡ eqb l.rank q
 lane_at_is [] q k l e = absurd cc
-lane_at_is (m ∷ lanes) q zero l e = ap (λ (x : Lane). eqb x.rank q) (same_some m l e)
+lane_at_is (m ∷ lanes) q zero l e = ap (λ (x : Lane). eqb x.rank q) (same_Some m l e)
 lane_at_is (m ∷ lanes) q (suc k) l e = lane_at_is lanes q k l e
 
 no_lane_at : (lanes : List Lane) (q k : ℕ) → element lanes k ≡ None → is_lane_of lanes q k ≡ false
@@ -57,7 +55,7 @@ no_lane_at (m ∷ lanes) q (suc k) e = no_lane_at lanes q k e
 
 turns_at_lane : (lanes : List Lane) (rank k : ℕ) (l : Lane) → element lanes k ≡ Some l → turns lanes rank k ≡ cond (eqb l.rank rank) (length l.frames) 0
 turns_at_lane [] rank k l e = absurd cc
-turns_at_lane (m ∷ lanes) rank zero l e = ap (λ (x : Lane). cond (eqb x.rank rank) (length x.frames) 0) (same_some m l e)
+turns_at_lane (m ∷ lanes) rank zero l e = ap (λ (x : Lane). cond (eqb x.rank rank) (length x.frames) 0) (same_Some m l e)
 turns_at_lane (m ∷ lanes) rank (suc k) l e = turns_at_lane lanes rank k l e
 
 no_turns_at : (lanes : List Lane) (rank k : ℕ) → element lanes k ≡ None → turns lanes rank k ≡ 0
@@ -109,7 +107,7 @@ placed_all : {A : Type 0} (q : ℕ × A → Bool) (xs : List A) (o j : ℕ) (x :
 placed_all q [] o j x all e = absurd cc
 placed_all q (y ∷ xs) o zero x all e =
     let here : o + 0 ≡ o = omega arith in
-    ap (λ n. q (n, x)) here ∙ ap (λ z. q (o, z)) (sym (same_some y x e)) ∙ (and_parts (q (o, y)) (list_all q (enumerate_from (o + 1) xs)) all).0
+    ap (λ n. q (n, x)) here ∙ ap (λ z. q (o, z)) (sym (same_Some y x e)) ∙ (and_parts (q (o, y)) (list_all q (enumerate_from (o + 1) xs)) all).0
 placed_all q (y ∷ xs) o (suc j) x all e =
     let later : o + suc j ≡ (o + 1) + j = omega arith in
     ap (λ n. q (n, x)) later ∙ placed_all q xs (o + 1) j x (and_parts (q (o, y)) (list_all q (enumerate_from (o + 1) xs)) all).1 e

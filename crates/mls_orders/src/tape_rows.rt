@@ -13,8 +13,8 @@ ghost use Rattle.mls_orders.specs.Tapes.{tape_pieces, TakesTheTape};
 ghost use Rattle.mls_orders.specs.OrderFree.{IsOrderFree};
 ghost use Rattle.mls_orders.specs.CellLines.{group_row};
 
-/// On a tape that meets the premise the accepted groups of a rank and plane are the same, whatever the order in which
-/// the ranks take the tape. None of them stands twice.
+/// On a tape that meets the premise the accepted groups of a rank and plane are the same, in some order, whatever the
+/// order in which the ranks take the tape. That none of them stands twice is a law of `mls_laws`.
 pub fn groups_are_the_same()
     ensures taken { (s : Sizes) (lanes : List Lane) (a b : ℕ → List LaneEvent) (rank plane : ℕ) →
         IsOrderFree s lanes → TakesTheTape s.ranks lanes a → TakesTheTape s.ranks lanes b → rank < s.ranks →
