@@ -1,7 +1,7 @@
 -- What is said on a connection: the group's Hello, the server's answer, and what the group then sends.
-use Rattle.std.specs.Prelude.{ℕ, ◌+◌, Bool, not, cond, List, [], ◌∷◌, ◌++◌, map, Option, Some, None, nat_lt, ◌==◌}
+use Rattle.std.specs.Prelude.{ℕ, ◌<◌, Bool, not, cond, List, [], ◌∷◌, ◌++◌, Option, Some, None, IsTrue, nat_lt, ◌==◌}
 use Rattle.std.specs.List.{find, flat_map}
-use Rattle.mls_model.specs.Numbers.{below, joined}
+use Rattle.mls_model.specs.Numbers.{below}
 use Rattle.mls_model.specs.Studies.{Sizes, Study}
 use Rattle.mls_model.specs.Blocks.{overlaps}
 use Rattle.mls_model.specs.Frames.{Frame, piece, beat, bye, save, crash, hello, welcome, refuse, spelling, Sight, whole, more, bad, sight}
@@ -59,6 +59,12 @@ reply_of save = replies.Other
 reply_of crash = replies.Other
 reply_of (hello version group life client rank) = replies.Other
 
+-- a rank with a client whose part meets the rank's block
+pub record IsPair (s : Sizes) (p : Pair) : Type 0 where
+  pub rank : p.rank < s.ranks
+  pub client : p.client < s.clients
+  pub overlap : IsTrue (overlaps s p.rank p.client)
+
 -- a rank with a client, where they overlap
 abbrev pub pair_of : Sizes → ℕ → ℕ → List Pair
 pair_of s rank client = cond (overlaps s rank client) (record { rank = rank; client = client } ∷ []) []
@@ -70,23 +76,31 @@ rank_pairs s rank = flat_map (pair_of s rank) (below s.clients)
 unfoldable pub pairs_of : Sizes → List Pair
 pairs_of s = flat_map (rank_pairs s) (below s.ranks)
 
--- The pieces of all planes in rising order: for each step the fields.
-unfoldable pub step_pieces : Study → (group life rank client step : ℕ) → List Frame
-step_pieces study group life rank client step = map (λ field. piece (solved_piece study group life step field rank client)) (below study.sizes.fields)
+-- The bytes that a group sends on a pair. First Hello, in version 1.
+unfoldable pub hello_bytes : (group life : ℕ) → Pair → List ℕ
+hello_bytes group life pair = spelling (hello 1 group life pair.client pair.rank)
 
-unfoldable pub all_pieces : Study → (group life rank client : ℕ) → List Frame
-all_pieces study group life rank client = flat_map (step_pieces study group life rank client) (below study.sizes.steps)
+-- the piece of a step and field, with the solver's samples
+unfoldable pub piece_bytes : Study → (group life : ℕ) → Pair → (step field : ℕ) → List ℕ
+piece_bytes study group life pair step field = spelling (piece (solved_piece study group life step field pair.rank pair.client))
 
--- what a group sends on a pair once it is welcome: Beat, the pieces, and Bye on the last pair
-unfoldable pub welcomed_frames : Study → (group life rank client : ℕ) → Bool → List Frame
-welcomed_frames study group life rank client last = beat group life ∷ (all_pieces study group life rank client ++ cond last (bye group life ∷ []) [])
+-- the pieces of all planes in rising order: for each step the fields
+unfoldable pub step_bytes : Study → (group life : ℕ) → Pair → (step : ℕ) → List ℕ
+step_bytes study group life pair step = flat_map (piece_bytes study group life pair step) (below study.sizes.fields)
 
-abbrev pub first_frame : (group life rank client : ℕ) → Frame
-first_frame group life rank client = hello 1 group life client rank
+unfoldable pub pieces_bytes : Study → (group life : ℕ) → Pair → List ℕ
+pieces_bytes study group life pair = flat_map (step_bytes study group life pair) (below study.sizes.steps)
 
--- The bytes that a group sends on a pair.
-unfoldable pub session : Study → (group life rank client : ℕ) → Bool → List ℕ
-session study group life rank client last = spelling (first_frame group life rank client) ++ joined (map spelling (welcomed_frames study group life rank client last))
+-- Bye on the last pair
+unfoldable pub bye_bytes : (group life : ℕ) → Bool → List ℕ
+bye_bytes group life last = cond last (spelling (bye group life)) []
+
+-- after Welcome: Beat, the pieces, and Bye on the last pair
+unfoldable pub welcomed_bytes : Study → (group life : ℕ) → Pair → Bool → List ℕ
+welcomed_bytes study group life pair last = spelling (beat group life) ++ (pieces_bytes study group life pair ++ bye_bytes group life last)
+
+unfoldable pub session : Study → (group life : ℕ) → Pair → Bool → List ℕ
+session study group life pair last = hello_bytes group life pair ++ welcomed_bytes study group life pair last
 
 -- What the bytes that were read say to the group, once it is known: bytes that are no frame's front are no welcome either.
 abbrev pub reply_by : Sight → Option Reply

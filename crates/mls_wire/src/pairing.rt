@@ -1,7 +1,8 @@
 //! The pairs of a rank and a client that a group has connections for.
 
 ghost use Rattle.std.specs.Prelude.{◌≡◌, ◌<◌, ◌++◌, IfOk, OnOk};
-ghost use Rattle.mls_wire.specs.Sessions.{pair_of, rank_pairs, pairs_of};
+ghost use Rattle.std.specs.List.{AllByRecursion};
+ghost use Rattle.mls_wire.specs.Sessions.{IsPair, pair_of, rank_pairs, pairs_of};
 
 use mls_base::faults::NoMemory;
 use mls_base::shape::Shape;
@@ -42,6 +43,8 @@ fn add_pairs(pairs: &mut Vec<Pair>, shape: &Shape, rank: u32) -> Result<(), NoMe
 /// The pairs whose overlap isn't empty, by rank, then client.
 pub fn pairs(alloc: Global, shape: &Shape) -> Result<Vec<Pair>, NoMemory>
     ensures exact { IfOk result (λ all. all.items ≡ pairs_of shape.now) }
+    // They are pairs of the study.
+    ensures each { IfOk result (λ all. AllByRecursion (IsPair shape.now) all.items) }
 {
     let mut all = Vec::new(alloc);
     for rank in 0..shape.ranks() {
