@@ -1,16 +1,14 @@
 -- What a closed link tells of the pair that it was used for.
-use Rattle.std.proofs.Common.{◌≡◌, ℕ, ◌+◌, ◌≤◌, Bool, List, [], ◌∷◌, ◌++◌, take, drop, length, Option, Some, None, IfSome, IsSomeAnd, refl, sym, ◌∙◌, ap, subst, arith}
+use Rattle.std.proofs.Common.{◌≡◌, ℕ, ◌≤◌, Bool, List, [], ◌∷◌, ◌++◌, take, drop, Option, Some, None, IfSome, refl, sym, ◌∙◌, ap, subst, arith}
 use Rattle.std.proofs.lemmas.Bool.{false≢true}
-use Rattle.mls_base.specs.Told.{MayCease, Rose}
+use Rattle.mls_base.specs.Told.{MayCease}
 use Rattle.mls_model.specs.Studies.{Study}
-use Rattle.mls_wire.specs.Links.{Talk, reading, writing, after_read, after_write, IsFresh}
+use Rattle.mls_wire.specs.Links.{Talk, after_read, after_write, IsFresh}
 use Rattle.mls_wire.specs.Doors.{Closed, Tells, after_close}
 use Rattle.mls_wire.specs.Sessions.{reply_in, hello_bytes, session}
 use Rattle.mls_wire.specs.declared.pairing.Pair.{Pair}
-use Rattle.mls_wire.specs.declared.reply.Reply.{Reply}
-use Rattle.mls_wire.specs.declared.reply.Reply.TheVariants as replies
 use Rattle.mls_group.specs.Faults.{ended, PairCounts}
-use Rattle.mls_group.specs.Pairs.{IsWelcome, IsPeer, IsFront, MayWrite, PairSent, PairRefused, PairAnswered, PairPart, PairCut, PairLeft}
+use Rattle.mls_group.specs.Pairs.{IsWelcome, IsPeer, IsFront, MayWrite, PairSent, PairRefused, PairAnswered, PairPart, PairLeft}
 use Rattle.mls_group.specs.Groups.{Served, WasRefused, HadPeer, WasCut, Failed, LastOne, AtMostOne, TellsOn, MayTell, LinkLeft}
 use Rattle.mls_group.specs.declared.faults.PairFault.{PairFault}
 use Rattle.mls_group.specs.declared.faults.PairFault.TheVariants as why

@@ -1,5 +1,5 @@
 -- What is written and read on a pair's link, step by step.
-use Rattle.std.proofs.Common.{◌≡◌, ℕ, ◌+◌, ◌<◌, ◌≤◌, Bool, List, [], ◌++◌, take, drop, length, Option, Some, None, IfSome, refl, sym, ◌∙◌, ap, subst, append_assoc, append-nil, length-append, arith}
+use Rattle.std.proofs.Common.{◌≡◌, ℕ, Bool, List, [], ◌++◌, take, Option, Some, None, IfSome, refl, sym, ◌∙◌, ap, subst, append_assoc, append-nil}
 use Rattle.mls_base.specs.Told.{MayCease}
 use Rattle.mls_base.proofs.Told.{MayCease-same}
 use Rattle.mls_wire.specs.Links.{Talk, after_read, after_write, SentFront}
@@ -9,7 +9,7 @@ use Rattle.mls_wire.specs.declared.reply.Reply.TheVariants as replies
 use Rattle.mls_wire.proofs.Sent.{write-write}
 use Rattle.mls_group.specs.Faults.{stopped, SureStop, SurePair}
 use Rattle.mls_group.specs.Hearing.{Heard, HeardNothing, StopHeard}
-use Rattle.mls_group.specs.Pairs.{IsWelcome, IsFront, MayWrite, PairSent, PairPart, PairCut, PairLeft}
+use Rattle.mls_group.specs.Pairs.{IsWelcome, IsFront, MayWrite, PairSent, PairCut, PairLeft}
 use Rattle.mls_group.specs.declared.faults.Stop.{Stop}
 use Rattle.mls_group.specs.declared.faults.Stop.TheVariants as stop
 use Rattle.mls_group.proofs.Reading.{says_nothing, read-nothing}

@@ -1,15 +1,14 @@
 -- What was read of a link.
-use Rattle.std.proofs.Common.{◌≡◌, ℕ, ◌+◌, ◌≤◌, List, [], ◌++◌, take, drop, length, Option, Some, None, IfSome, Bool, true, false, not, refl, sym, ◌∙◌, ap, subst, append-nil, length-append, arith}
+use Rattle.std.proofs.Common.{◌≡◌, ℕ, ◌+◌, List, [], ◌++◌, take, drop, length, Option, Some, None, IfSome, Bool, true, false, not, refl, sym, ◌∙◌, ap, subst, append-nil, length-append, arith}
 use Rattle.std.specs.Prelude.{is_some}
 use Rattle.std.proofs.Math.Seq.{take-add, take-append_seam}
-use Rattle.std.proofs.lemmas.List.{take-append-le, length-take}
-use Rattle.mls_base.specs.Told.{MayCease}
-use Rattle.mls_wire.specs.Links.{Talk, Gives, reading, after_read}
+use Rattle.std.proofs.lemmas.List.{length-take}
+use Rattle.mls_wire.specs.Links.{Talk, Gives, after_read}
 use Rattle.mls_model.specs.Frames.{sight}
 use Rattle.mls_wire.specs.Sessions.{reply_in}
 use Rattle.mls_wire.specs.declared.reply.Reply.{Reply}
 use Rattle.mls_wire.proofs.Sent.{read-read}
-use Rattle.mls_group.specs.Hearing.{Heard, HeardNothing}
+use Rattle.mls_group.specs.Hearing.{HeardNothing}
 
 -- these bytes were read, from a link that tells the first of those that were left
 pub record HasRead (bytes : List ℕ) (old now : Option Talk) : Type 0 where

@@ -1,5 +1,5 @@
 -- One link after another serves one pair after another.
-use Rattle.std.proofs.Common.{◌≡◌, ℕ, Bool, List, [], ◌∷◌, ◌++◌, Option, Some, None, IfSome, IsSomeAnd, refl, sym, ◌∙◌, ap, subst, append_assoc, append-nil, inr, length, eqb, arith}
+use Rattle.std.proofs.Common.{◌≡◌, ℕ, Bool, List, [], ◌∷◌, ◌++◌, Option, Some, None, refl, sym, ◌∙◌, ap, subst, append_assoc, append-nil, inr, length, eqb, arith}
 use Rattle.std.proofs.lemmas.Bool.Decides.{nat_tests}
 use Rattle.mls_model.specs.Studies.{Study}
 use Rattle.mls_wire.specs.Doors.{Closed}

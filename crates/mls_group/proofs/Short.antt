@@ -4,7 +4,7 @@ use Rattle.std.proofs.lemmas.Bool.{ltb-true}
 use Rattle.std.proofs.lemmas.Bool.Decides.{nat_tests}
 use Rattle.std.specs.Int.{w16, w32}
 use Rattle.mls_model.specs.declared.lanes.FrameFault.TheVariants.{BadKind, BadLength}
-use Rattle.mls_model.specs.Frames.{Frame, piece, Sight, whole, more, bad, sight, sized_sight, piece_sight, fixed_sight, fixed_length, fixed_frame, piece_in, is_no_length, longest_body, number}
+use Rattle.mls_model.specs.Frames.{Frame, piece, Sight, whole, more, bad, sight, sized_sight, piece_sight, fixed_sight, fixed_length, fixed_frame, piece_in, is_no_length, number}
 use Rattle.mls_wire.specs.Sessions.{reply_by, reply_in}
 
 by_cond : (P : Type 0) (b : Bool) (x y : Sight) → reply_by (cond b x y) ≡ None → (b ≡ true → reply_by x ≡ None → P) → (b ≡ false → reply_by y ≡ None → P) → P

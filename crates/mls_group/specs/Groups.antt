@@ -1,5 +1,5 @@
 -- What a door's closed links say of a group: each had its pair's session, and at most the last a part of it.
-use Rattle.std.specs.Prelude.{◌≡◌, ℕ, ◌≤◌, Bool, true, false, List, [], ◌∷◌, ◌++◌, length, Option, Some, None, IfSome, IsSomeAnd, IsTrue, ⊤, ◌⊎◌, Result, MatchResult}
+use Rattle.std.specs.Prelude.{◌≡◌, ℕ, ◌≤◌, Bool, true, false, List, [], ◌∷◌, ◌++◌, length, Option, Some, IfSome, IsSomeAnd, IsTrue, ⊤, ◌⊎◌, Result, MatchResult}
 use Rattle.std.specs.List.{AllByRecursion}
 use Rattle.mls_base.specs.Told.{Rose}
 use Rattle.mls_model.specs.Studies.{Study}

@@ -1,4 +1,4 @@
-use Rattle.std.proofs.Common.{◌≡◌, ◌+◌, ◌-◌, ◌<◌, ◌≤◌, ◌++◌, length, take, ap, sym, subst, refl, ◌∙◌, arith, length-append}
+use Rattle.std.proofs.Common.{◌<◌, ◌++◌, length, ap, sym, subst, refl, ◌∙◌, arith, length-append}
 use Rattle.mls_wire.specs.Sessions.{reply_in}
 use Rattle.mls_group.proofs.Reading.{HasRead, has_none, has_more, says_nothing, none_by}
 use Rattle.mls_group.proofs.Short.{short}

@@ -1,4 +1,4 @@
-use Rattle.std.proofs.Common.{◌≡◌, None, List, length}
+use Rattle.std.proofs.Common.{◌≡◌, None, length}
 use Rattle.std.specs.List.{AllByRecursion}
 use Rattle.mls_base.specs.Told.{StaysSound}
 use Rattle.mls_wire.specs.Sessions.{IsPair, pairs_of}

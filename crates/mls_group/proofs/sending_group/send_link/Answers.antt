@@ -1,4 +1,4 @@
-use Rattle.std.proofs.Common.{◌≡◌, ◌∙◌, ap, arith, sym, subst}
+use Rattle.std.proofs.Common.{◌∙◌, ap, sym}
 use Rattle.mls_wire.specs.Doors.{after_close}
 use Rattle.mls_group.proofs.Fronts.{on_ok}
 use Rattle.mls_group.proofs.Closing.{link_left}

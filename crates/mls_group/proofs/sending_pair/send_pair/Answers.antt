@@ -1,4 +1,4 @@
-use Rattle.std.proofs.Common.{◌≡◌, ◌+◌, ◌++◌, ◌∙◌, ap, arith, length, length-append, Option, Some, subst}
+use Rattle.std.proofs.Common.{◌∙◌, ap, arith, length, length-append, Option, Some, subst}
 use Rattle.std.proofs.lemmas.Result.{err_from_is_err_and}
 use Rattle.mls_wire.specs.Sessions.{hello_bytes, welcomed_bytes, session}
 use Rattle.mls_wire.specs.declared.reply.Reply.{Reply}

@@ -1,4 +1,4 @@
-use Rattle.std.proofs.Common.{◌≡◌, ◌+◌, ◌≤◌, length, OnOk, OnErr, IfErr, List, ℕ, subst, arith}
+use Rattle.std.proofs.Common.{◌≡◌, ◌+◌, ◌≤◌, length, OnOk, OnErr, IfErr, List, ℕ, subst}
 use Rattle.mls_wire.specs.Links.{SentFront, after_write}
 use Rattle.mls_group.specs.Faults.{SureStop}
 use Rattle.mls_group.proofs.Fronts.{bye_last, no_bye, write_none}
