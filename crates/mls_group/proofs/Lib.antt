@@ -1,0 +1,6 @@
+mod Closing
+mod Cuts
+mod Fronts
+mod Reading
+mod Serving
+mod Short
