@@ -13,6 +13,8 @@ use Rattle.mls_model.specs.AcceptedRows.{completions, accepted, sample_rows}
 use Rattle.mls_model.specs.Statistics.{variance_top, third_top, covariance_top}
 use Rattle.mls_model.specs.Designs.{drawn, word, word_of, values, design_line, group_lines, design_text, inputs, solve}
 use Rattle.mls_model.specs.ResultText.{study_line, rank_line, rank_lines, lane_line, lane_lines, step_line, power_line, variance_line, third_line, extrema_line, exceed_words, exceed_line, millionths_words, power_lines, extrema_lines, exceed_lines, lines_of}
+use Rattle.mls_orders.specs.Tapes.{rank_events}
+use Rattle.mls_orders.specs.OrderFree.{some_life_has_all, is_order_free}
 use Rattle.mls_text.specs.Decimals.{number_below}
 use Rattle.mls_text.specs.Fronts.{number_in, number_before}
 use Rattle.mls_tape.specs.ScheduleLines.{orders_of}
@@ -28,6 +30,11 @@ of_bytes = tt
 unfoldable pub of_events : Unit {0}
 unfolding gathered any_place all_places plain_order plain is_legal_order is_legal is_complete history survives surviving fitting makes_whole is_completed completes piece_outcome outcome outcomes tally counts completions accepted sample_rows last_save crash_after_save
 of_events = tt
+
+-- when the order of a tape doesn't matter
+unfoldable pub of_premise : Unit {0}
+unfolding of_events rank_events some_life_has_all is_order_free
+of_premise = tt
 
 -- what is printed
 unfoldable pub of_texts : Unit {0}

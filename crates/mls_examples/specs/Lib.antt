@@ -13,3 +13,4 @@ pub mod Ranks
 pub mod Schedules
 pub mod CheckpointBytes
 pub mod Trial
+pub mod Orders

@@ -10,6 +10,7 @@ pub mod crashes;
 pub mod designs;
 pub mod fields;
 pub mod lanes;
+pub mod orders;
 pub mod samples;
 pub mod schedules;
 pub mod statistics;

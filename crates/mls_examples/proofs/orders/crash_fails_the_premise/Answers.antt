@@ -1,0 +1,32 @@
+use Rattle.std.proofs.Common.{refl}
+use Rattle.std.proofs.lemmas.Bool.{both_ways}
+use Rattle.mls_examples.specs.Small.{small_study}
+use Rattle.mls_examples.specs.Orders.{piece_and_crash}
+use Rattle.mls_orders.specs.OrderFree.{is_order_free}
+use Rattle.mls_orders.proofs.PremiseTests.{tested}
+use Rattle.mls_examples.proofs.Computing.{of_premise}
+use Rattle.mls_examples.proofs.orders.crash_fails_the_premise.Goals as goal
+
+pub returns-clause-tests : goal.returns-clause-tests
+unfolding of_premise
+returns-clause-tests c = refl
+
+pub returns-clause-test : goal.returns-clause-test
+unfolding of_premise
+returns-clause-test c = refl
+
+pub returns-clause-complete : goal.returns-clause-complete
+unfolding of_premise
+returns-clause-complete c = refl
+
+pub returns-clause-piece_first : goal.returns-clause-piece_first
+unfolding of_premise
+returns-clause-piece_first c = refl
+
+pub returns-clause-crash_first : goal.returns-clause-crash_first
+unfolding of_premise
+returns-clause-crash_first c = refl
+
+pub returns-clause-premise : goal.returns-clause-premise
+unfolding of_premise
+returns-clause-premise c = λ free. both_ways (is_order_free small_study.sizes piece_and_crash) refl ((tested small_study.sizes piece_and_crash).1 free)

@@ -1,0 +1,14 @@
+pub mod Permuting
+pub mod Statistics
+pub mod CellTexts
+pub mod KeptSums
+pub mod Turns
+pub mod Interleaved
+pub mod WholeKeys
+pub mod TapePieces
+pub mod Counted
+pub mod Found
+pub mod Accepting
+pub mod GroupRows
+pub mod SameLines
+pub mod PremiseTests
