@@ -1,0 +1,3 @@
+mod Counting
+mod Known
+pub mod Sent

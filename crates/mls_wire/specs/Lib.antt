@@ -1,0 +1,5 @@
+pub mod Links
+pub mod Doors
+pub mod Sessions
+pub mod MemLinks
+pub mod MemDoors
