@@ -107,8 +107,5 @@ texts_all f i xs text old new past so_far =
     front_all text old new
     (let P : List ℕ → Type 0 = λ rest. IsFrontOut rest text old new in subst P (ap (flat_map f) (drop_all i xs past)) so_far)
 
--- what carries a text of several parts through its writes
-pub ruleset chain = (first_failed, later_failed, both_out, writes_after, failed_writes)
-
 -- what takes the pieces of a line together
 pub ruleset pieces = (append_assoc, append-nil)
