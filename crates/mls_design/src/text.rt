@@ -64,7 +64,7 @@ fn put_group<O: Sink>(
     requires made { design.now ≡ design_of study.now }
     requires group_in { group < study.now.sizes.groups }
     requires sims { sims ≡ 2 + study.now.sizes.parameters }
-    ensures { WritesTo O.told O.faults out.old out.new result (group_lines study.now group) }
+    ensures { WritesTo O.told O.faults O.sure out.old out.new result (group_lines study.now group) }
 {
     for sim in 0..sims {
         line_of(study, design, group, sim).put(out)?;
@@ -82,7 +82,7 @@ fn put_groups<O: Sink>(
 ) -> Result<(), Failed>
     requires made { design.now ≡ design_of study.now }
     requires groups { groups ≡ study.now.sizes.groups }
-    ensures { WritesTo O.told O.faults out.old out.new result (all_lines study.now) }
+    ensures { WritesTo O.told O.faults O.sure out.old out.new result (all_lines study.now) }
 {
     let sims = 2 + study.shape().parameters();
     for group in 0..groups {
@@ -94,7 +94,7 @@ fn put_groups<O: Sink>(
 /// Writes the first line.
 #[tactic(auto, unfolding(crate::specs::Lines::title_words))]
 fn put_title<O: Sink>(out: &mut O) -> Result<(), Failed>
-    ensures { WritesTo O.told O.faults out.old out.new result title_words }
+    ensures { WritesTo O.told O.faults O.sure out.old out.new result title_words }
 {
     put_bytes(out, b"melissa-design 1\n")
 }
@@ -102,15 +102,16 @@ fn put_title<O: Sink>(out: &mut O) -> Result<(), Failed>
 /// Writes the last line.
 #[tactic(auto, unfolding(crate::specs::Lines::end_words))]
 fn put_end<O: Sink>(out: &mut O) -> Result<(), Failed>
-    ensures { WritesTo O.told O.faults out.old out.new result end_words }
+    ensures { WritesTo O.told O.faults O.sure out.old out.new result end_words }
 {
     put_bytes(out, b"end\n")
 }
 
-/// Writes the design text, a line at a time and without memory. After `Failed` a front of it went out.
+/// Writes the design text, a line at a time and without memory. After `Failed` a front of it went out; that comes
+/// only where the sink takes fewer bytes for sure than the text has.
 pub fn write_design<O: Sink>(study: &Study, design: &Design, out: &mut O) -> Result<(), Failed>
     requires { design.now ≡ design_of study.now }
-    ensures { WritesTo O.told O.faults out.old out.new result (design_text study.now) }
+    ensures { WritesTo O.told O.faults O.sure out.old out.new result (design_text study.now) }
 {
     put_title(out)?;
     put_groups(out, study, design, study.shape().groups())?;

@@ -1,9 +1,9 @@
 -- What writing a watch leaves, and the numbers of groups at its end.
-use Rattle.std.specs.Prelude.{◌≡◌, ℕ, Option, Result, Ok, Err, List}
+use Rattle.std.specs.Prelude.{◌≡◌, ℕ, Result, Ok, Err, List}
 use Rattle.mls_launch.specs.declared.totals.Totals.{Totals}
 use Rattle.mls_launch.specs.declared.faults.OutFault.{OutFault}
 use Rattle.mls_launch.specs.declared.faults.OutFault.TheVariants.{WriteFault, Memory}
-use Rattle.mls_base.specs.Told.{appended, Rose, WroteFront}
+use Rattle.mls_text.specs.Writing.{SinkState, Wrote, FailedAfter}
 use Rattle.mls_model.specs.Studies.{Sizes}
 use Rattle.mls_model.specs.Pasts.{Entry, runs, waits, is_finished, is_given_up}
 use Rattle.mls_model.specs.WatchText.{group_count}
@@ -15,12 +15,12 @@ pub record AreTotals (t : Totals) (s : Sizes) (past : List Entry) : Type 0 where
   pub finished : t.finished ≡ group_count s (λ g. is_finished g past)
   pub given_up : t.given_up ≡ group_count s (λ g. is_given_up g past)
 
--- After Ok the text was appended and no count rose; after a write fault a front of it went out and the count of
--- faults rose; after want of memory nothing went out.
-abbrev pub OutLeaves : OutFault → List ℕ → Option (List ℕ) → Option (List ℕ) → ℕ → ℕ → Type 0
-OutLeaves WriteFault text old new before now = WroteFront old new text × Rose before now
-OutLeaves Memory text old new before now = (new ≡ old) × (now ≡ before)
+-- After Ok the text was appended and no write failed; after a write fault a front of it went out and a write failed;
+-- after want of memory the sink is as before.
+abbrev pub OutLeaves : OutFault → List ℕ → SinkState → SinkState → Type 0
+OutLeaves WriteFault text old new = FailedAfter old new text
+OutLeaves Memory text old new = new ≡ old
 
-abbrev pub WritesOut : {A : Type 0} → Result A OutFault → List ℕ → Option (List ℕ) → Option (List ℕ) → ℕ → ℕ → Type 0
-WritesOut (Ok done) text old new before now = (new ≡ appended old text) × (now ≡ before)
-WritesOut (Err fault) text old new before now = OutLeaves fault text old new before now
+abbrev pub WritesOut : {A : Type 0} → Result A OutFault → List ℕ → SinkState → SinkState → Type 0
+WritesOut (Ok done) text old new = Wrote old new text
+WritesOut (Err fault) text old new = OutLeaves fault text old new

@@ -1,7 +1,7 @@
 //! The text of a watch over a list of events.
 
 ghost use Rattle.std.specs.Prelude.{◌≡◌, ◌++◌, ◌≤◌, List, length, IfOk, OnOk, map};
-ghost use Rattle.mls_text.specs.Writing.{WritesTo};
+ghost use Rattle.mls_text.specs.Writing.{WritesTo, sink_seen};
 ghost use Rattle.mls_model.specs.Launcher.{past_of, timed_actions};
 ghost use Rattle.mls_launch.specs.Writing.{AreTotals, WritesOut};
 ghost use Rattle.mls_model.specs.WatchText.{watch_title, life_line, number_line, action_line, action_lines, end_words, watch_text};
@@ -92,7 +92,7 @@ fn action_line(timed: &Timed) -> Line
 /// Writes the lines of actions.
 #[tactic(auto, unfolding(mls_model::specs::WatchText::action_lines))]
 fn put_actions<O: Sink>(out: &mut O, all: &[Timed]) -> Result<(), Failed>
-    ensures { WritesTo O.told O.faults out.old out.new result (action_lines all.now) }
+    ensures { WritesTo O.told O.faults O.sure out.old out.new result (action_lines all.now) }
 {
     for timed in all {
         action_line(timed).put(out)?;
@@ -121,16 +121,15 @@ fn end_line(totals: &Totals) -> Line
 /// Writes the title.
 #[tactic(auto, unfolding(mls_model::specs::WatchText::watch_title))]
 fn put_title<O: Sink>(out: &mut O) -> Result<(), Failed>
-    ensures { WritesTo O.told O.faults out.old out.new result watch_title }
+    ensures { WritesTo O.told O.faults O.sure out.old out.new result watch_title }
 {
     put_bytes(out, b"melissa-watch 1\n")
 }
 
 /// Writes the text of actions and totals.
-#[tactic(auto, using(mls_text::proofs::Writing::chain))]
 fn put_watch<O: Sink>(out: &mut O, all: &[Timed], totals: &Totals) -> Result<(), Failed>
     ensures { let t = totals.now in
-        WritesTo O.told O.faults out.old out.new result
+        WritesTo O.told O.faults O.sure out.old out.new result
         (watch_title ++ (action_lines all.now ++ end_words t.running t.waiting t.finished t.given_up)) }
 {
     put_title(out)?;
@@ -141,7 +140,8 @@ fn put_watch<O: Sink>(out: &mut O, all: &[Timed], totals: &Totals) -> Result<(),
 /// Writes the watch text of the events for a study.
 ///
 /// Nothing is written before the actions of all events are known. After `WriteFault` a front of the text went out
-/// and the sink's count of faults rose; after `Memory` nothing went out.
+/// and the sink's count of faults rose, which comes only where the sink takes fewer bytes for sure than the text
+/// has; after `Memory` nothing went out.
 pub fn write_watch<O: Sink>(
     alloc: Global,
     shape: &Shape,
@@ -149,7 +149,7 @@ pub fn write_watch<O: Sink>(
     out: &mut O,
 ) -> Result<(), OutFault>
     ensures { WritesOut result (watch_text shape.now events.now)
-        (O.told out.old) (O.told out.new) (O.faults out.old) (O.faults out.new) }
+        (sink_seen O.told O.faults O.sure out.old) (sink_seen O.told O.faults O.sure out.new) }
 {
     let (all, totals) = watched(alloc, shape, events)?;
     match put_watch(out, &all, &totals) {

@@ -1,11 +1,11 @@
 -- The lines of ranks, counted from 0.
-use Rattle.std.proofs.Common.{refl, [], ◌∷◌, ◌≡◌, List, ℕ, ◌+◌, ◌<◌, ◌≤◌, length, map, drop, get_or, Option, sym, ◌∙◌, ap, subst, arith}
+use Rattle.std.proofs.Common.{refl, [], ◌∷◌, ◌≡◌, List, ℕ, ◌+◌, ◌<◌, ◌≤◌, length, map, drop, get_or, sym, ◌∙◌, ap, subst, arith}
 use Rattle.std.specs.List.{flat_map, enumerate_from}
 use Rattle.std.proofs.lemmas.List.{length-map, get_or-map, get_or_default}
 use Rattle.std.proofs.lemmas.List.FromFn.{length-enumerate_from, get_or-enumerate_from}
-use Rattle.mls_base.specs.Told.{appended, WroteFront}
 use Rattle.mls_model.specs.declared.outcomes.Counts.{Counts}
 use Rattle.mls_model.specs.ResultText.{rank_line}
+use Rattle.mls_text.specs.Writing.{SinkState, Wrote, FailedAfter}
 use Rattle.mls_text.proofs.Writing.{IsFrontOut, texts_more, texts_failed, texts_all}
 
 abbrev pub line_of_rank : ℕ × Counts → List ℕ
@@ -23,19 +23,20 @@ line_at f i xs dx d here =
 pair_of : {X : Type 0} (f : X → Counts) (dx : X) → ℕ × Counts
 pair_of f dx = (0, f dx)
 
-pub rank_more : {X : Type 0} (f : X → Counts) (i : ℕ) (xs : List X) (dx : X) (text : List ℕ) (old mid new : Option (List ℕ)) (before now after : ℕ) → i < length xs → IsFrontOut (flat_map line_of_rank (drop i (enumerate_from 0 (map f xs)))) text old mid before now → new ≡ appended mid (rank_line i (f (get_or xs i dx))) → after ≡ now → IsFrontOut (flat_map line_of_rank (drop (i + 1) (enumerate_from 0 (map f xs)))) text old new before after
-rank_more f i xs dx text old mid new before now after here out is_new is_now =
+-- one line more is out, one failed, all are out
+pub rank_more : {X : Type 0} (f : X → Counts) (i : ℕ) (xs : List X) (dx : X) (text : List ℕ) (old mid new : SinkState) → i < length xs → IsFrontOut (flat_map line_of_rank (drop i (enumerate_from 0 (map f xs)))) text old mid → Wrote mid new (rank_line i (f (get_or xs i dx))) → IsFrontOut (flat_map line_of_rank (drop (i + 1) (enumerate_from 0 (map f xs)))) text old new
+rank_more f i xs dx text old mid new here so_far out =
     let there : i < length (enumerate_from 0 (map f xs)) = omega (arith, here, length-numbered f xs) in
-    texts_more line_of_rank i (enumerate_from 0 (map f xs)) (pair_of f dx) text old mid new before now after there out (is_new ∙ ap (appended mid) (sym (line_at f i xs dx (pair_of f dx) here))) is_now
+    texts_more line_of_rank i (enumerate_from 0 (map f xs)) (pair_of f dx) text old mid new there so_far (subst (Wrote mid new) (sym (line_at f i xs dx (pair_of f dx) here)) out)
 
-pub rank_failed : {X : Type 0} (f : X → Counts) (i : ℕ) (xs : List X) (dx : X) (text : List ℕ) (old mid new : Option (List ℕ)) (before now : ℕ) → i < length xs → IsFrontOut (flat_map line_of_rank (drop i (enumerate_from 0 (map f xs)))) text old mid before now → WroteFront mid new (rank_line i (f (get_or xs i dx))) → WroteFront old new text
-rank_failed f i xs dx text old mid new before now here out failed =
+pub rank_failed : {X : Type 0} (f : X → Counts) (i : ℕ) (xs : List X) (dx : X) (text : List ℕ) (old mid new : SinkState) → i < length xs → IsFrontOut (flat_map line_of_rank (drop i (enumerate_from 0 (map f xs)))) text old mid → FailedAfter mid new (rank_line i (f (get_or xs i dx))) → FailedAfter old new text
+rank_failed f i xs dx text old mid new here so_far failed =
     let there : i < length (enumerate_from 0 (map f xs)) = omega (arith, here, length-numbered f xs) in
-    texts_failed line_of_rank i (enumerate_from 0 (map f xs)) (pair_of f dx) text old mid new before now there out (subst (WroteFront mid new) (sym (line_at f i xs dx (pair_of f dx) here)) failed)
+    texts_failed line_of_rank i (enumerate_from 0 (map f xs)) (pair_of f dx) text old mid new there so_far (subst (FailedAfter mid new) (sym (line_at f i xs dx (pair_of f dx) here)) failed)
 
-pub ranks_all : {X : Type 0} (f : X → Counts) (i : ℕ) (xs : List X) (text : List ℕ) (old new : Option (List ℕ)) (before now : ℕ) → length xs ≤ i → IsFrontOut (flat_map line_of_rank (drop i (enumerate_from 0 (map f xs)))) text old new before now → new ≡ appended old text
-ranks_all f i xs text old new before now past out =
-    texts_all line_of_rank i (enumerate_from 0 (map f xs)) text old new before now (omega (arith, past, length-numbered f xs)) out
+pub ranks_all : {X : Type 0} (f : X → Counts) (i : ℕ) (xs : List X) (text : List ℕ) (old new : SinkState) → length xs ≤ i → IsFrontOut (flat_map line_of_rank (drop i (enumerate_from 0 (map f xs)))) text old new → Wrote old new text
+ranks_all f i xs text old new past so_far =
+    texts_all line_of_rank i (enumerate_from 0 (map f xs)) text old new (omega (arith, past, length-numbered f xs)) so_far
 
 -- each counts as they are kept
 pub all_kept : (xs : List Counts) → map (λ (counts : Counts). counts) xs ≡ xs

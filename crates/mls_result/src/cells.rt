@@ -29,7 +29,8 @@ use mls_text::put_bytes;
 /// Writes the power lines of a cell without samples.
 #[tactic(auto, unfolding(mls_model::specs::ResultText::power_line, mls_model::specs::ResultText::variance_line, mls_model::specs::ResultText::third_line))]
 fn put_no_powers<O: Sink>(out: &mut O) -> Result<(), Failed>
-    ensures { WritesTo O.told O.faults out.old out.new result (power_line [] ++ (variance_line [] ++ third_line [])) }
+    ensures { WritesTo O.told O.faults O.sure out.old out.new result
+        (power_line [] ++ (variance_line [] ++ third_line [])) }
 {
     put_bytes(out, b"power -\nvariance -\nthird -\n")
 }
@@ -55,7 +56,7 @@ pub fn put_power_lines<O: Sink>(
     cell: u32,
 ) -> Result<(), Failed>
     requires cell { IsCellOf field.now step cell }
-    ensures { WritesTo O.told O.faults out.old out.new result
+    ensures { WritesTo O.told O.faults O.sure out.old out.new result
         (sums_powers (shape_of field.now).signed (sums_at field.now step cell)) }
 {
     let rows = field.rows(step);
@@ -82,7 +83,7 @@ struct FoldedCell<'a> {
 fn put_power<O: Sink>(out: &mut O, cell: &FoldedCell<'_>) -> Result<(), Failed>
     ensures { let study = cell.now.study.now in
         let text = sums_powers study.sizes.signed (sums_at cell.now.field.now cell.now.plane cell.now.place) in
-        WritesTo O.told O.faults out.old out.new result (cond (shows study Power) text []) }
+        WritesTo O.told O.faults O.sure out.old out.new result (cond (shows study Power) text []) }
 {
     if cell.study.shows(Statistic::Power) {
         return put_power_lines(out, cell.field, cell.plane, cell.place);
@@ -94,7 +95,7 @@ fn put_power<O: Sink>(out: &mut O, cell: &FoldedCell<'_>) -> Result<(), Failed>
 fn put_extrema<O: Sink>(out: &mut O, cell: &FoldedCell<'_>) -> Result<(), Failed>
     ensures { let study = cell.now.study.now in
         let text = sums_extrema study.sizes.signed (sums_at cell.now.field.now cell.now.plane cell.now.place) in
-        WritesTo O.told O.faults out.old out.new result (cond (shows study Extrema) text []) }
+        WritesTo O.told O.faults O.sure out.old out.new result (cond (shows study Extrema) text []) }
 {
     if cell.study.shows(Statistic::Extrema) {
         let shape = cell.study.shape();
@@ -115,7 +116,7 @@ fn put_exceed<O: Sink>(out: &mut O, cell: &FoldedCell<'_>) -> Result<(), Failed>
     ensures { let study = cell.now.study.now in
         let has_line = shows study Exceed && nat_lt 0 (length study.sizes.thresholds) in
         let text = exceed_words (sums_at cell.now.field.now cell.now.plane cell.now.place).above in
-        WritesTo O.told O.faults out.old out.new result (cond has_line text []) }
+        WritesTo O.told O.faults O.sure out.old out.new result (cond has_line text []) }
 {
     if has_exceed_line(cell.study) {
         let thresholds = cell.study.shape().thresholds();
@@ -128,7 +129,7 @@ fn put_exceed<O: Sink>(out: &mut O, cell: &FoldedCell<'_>) -> Result<(), Failed>
 fn put_indices<O: Sink>(out: &mut O, cell: &FoldedCell<'_>) -> Result<(), Failed>
     ensures { let study = cell.now.study.now in
         let text = sums_indices study (sums_at cell.now.field.now cell.now.plane cell.now.place) in
-        WritesTo O.told O.faults out.old out.new result (cond (shows study Sobol) text []) }
+        WritesTo O.told O.faults O.sure out.old out.new result (cond (shows study Sobol) text []) }
 {
     if cell.study.shows(Statistic::Sobol) {
         let parameters = cell.study.shape().parameters();
@@ -141,7 +142,7 @@ fn put_indices<O: Sink>(out: &mut O, cell: &FoldedCell<'_>) -> Result<(), Failed
 /// Writes what is said of a cell's statistics.
 fn put_statistics<O: Sink>(out: &mut O, cell: &FoldedCell<'_>) -> Result<(), Failed>
     ensures { let sums = sums_at cell.now.field.now cell.now.plane cell.now.place in
-        WritesTo O.told O.faults out.old out.new result (sums_statistics cell.now.study.now sums) }
+        WritesTo O.told O.faults O.sure out.old out.new result (sums_statistics cell.now.study.now sums) }
 {
     put_power(out, cell)?;
     put_extrema(out, cell)?;
@@ -164,7 +165,7 @@ pub fn put_cell<O: Sink>(
     requires first { (block study.now.sizes (core_rank core.now)).first ≤ cell }
     requires end { cell < (block study.now.sizes (core_rank core.now)).end }
     ensures { let sums = core_sums core.now (plane_of study.now.sizes step field) cell in
-        WritesTo O.told O.faults out.old out.new result (sums_text study.now step field cell sums) }
+        WritesTo O.told O.faults O.sure out.old out.new result (sums_text study.now step field cell sums) }
 {
     let shape = core.shape();
     let plane = shape.plane(step, field);

@@ -19,7 +19,7 @@ use mls_text::put_bytes;
 /// Writes the extrema line of no values.
 #[tactic(auto, unfolding(mls_model::specs::ResultText::extrema_line))]
 fn put_no_ends<O: Sink>(out: &mut O) -> Result<(), Failed>
-    ensures { WritesTo O.told O.faults out.old out.new result (extrema_line []) }
+    ensures { WritesTo O.told O.faults O.sure out.old out.new result (extrema_line []) }
 {
     put_bytes(out, b"extrema -\n")
 }
@@ -35,7 +35,7 @@ pub fn put_extrema_line<O: Sink>(
 ) -> Result<(), Failed>
     requires shape { shape_of field.now ≡ shape.now }
     requires cell { IsCellOf field.now step cell }
-    ensures { WritesTo O.told O.faults out.old out.new result
+    ensures { WritesTo O.told O.faults O.sure out.old out.new result
         (sums_extrema (shape_of field.now).signed (sums_at field.now step cell)) }
 {
     let rows = field.rows(step);

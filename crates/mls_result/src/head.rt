@@ -46,15 +46,14 @@ fn study_line(study: &Study) -> Line
 /// Writes the first line.
 #[tactic(auto, unfolding(crate::specs::Words::title_words))]
 fn put_title<O: Sink>(out: &mut O) -> Result<(), Failed>
-    ensures { WritesTo O.told O.faults out.old out.new result title_words }
+    ensures { WritesTo O.told O.faults O.sure out.old out.new result title_words }
 {
     put_bytes(out, b"melissa-result 1\n")
 }
 
 /// Writes the title and the study line.
-#[tactic(auto, using(mls_text::proofs::Writing::chain))]
 pub fn put_head<O: Sink>(out: &mut O, study: &Study) -> Result<(), Failed>
-    ensures { WritesTo O.told O.faults out.old out.new result (title_words ++ study_line study.now) }
+    ensures { WritesTo O.told O.faults O.sure out.old out.new result (title_words ++ study_line study.now) }
 {
     put_title(out)?;
     study_line(study).put(out)
@@ -63,15 +62,14 @@ pub fn put_head<O: Sink>(out: &mut O, study: &Study) -> Result<(), Failed>
 /// Writes the word before the name of a field.
 #[tactic(auto, unfolding(crate::specs::Words::field_start))]
 fn put_field_start<O: Sink>(out: &mut O) -> Result<(), Failed>
-    ensures { WritesTo O.told O.faults out.old out.new result field_start }
+    ensures { WritesTo O.told O.faults O.sure out.old out.new result field_start }
 {
     put_bytes(out, b" field ")
 }
 
 /// Writes the name of a field with the word before it.
-#[tactic(auto, using(mls_text::proofs::Writing::chain))]
 fn put_name<O: Sink>(out: &mut O, name: &str) -> Result<(), Failed>
-    ensures { WritesTo O.told O.faults out.old out.new result (field_start ++ name.now) }
+    ensures { WritesTo O.told O.faults O.sure out.old out.new result (field_start ++ name.now) }
 {
     put_field_start(out)?;
     put_bytes(out, name.as_bytes())
@@ -80,7 +78,7 @@ fn put_name<O: Sink>(out: &mut O, name: &str) -> Result<(), Failed>
 /// Writes the name of a field where the study names its fields.
 fn put_field<O: Sink>(out: &mut O, study: &Study, field: u32) -> Result<(), Failed>
     requires { field < study.now.sizes.fields }
-    ensures { WritesTo O.told O.faults out.old out.new result (field_words study.now field) }
+    ensures { WritesTo O.told O.faults O.sure out.old out.new result (field_words study.now field) }
 {
     if study.named() {
         return put_name(out, study.field_name(field));
@@ -98,7 +96,7 @@ pub fn put_step<O: Sink>(
     groups: u32,
 ) -> Result<(), Failed>
     requires { field < study.now.sizes.fields }
-    ensures { WritesTo O.told O.faults out.old out.new result (step_line study.now step field cell groups) }
+    ensures { WritesTo O.told O.faults O.sure out.old out.new result (step_line study.now step field cell groups) }
 {
     step_start(step).put(out)?;
     put_field(out, study, field)?;

@@ -121,16 +121,15 @@ fn parameter_rest(parts: &IndexParts) -> Line
 /// Writes the first word of a Sobol line.
 #[tactic(auto, unfolding(crate::specs::Words::sobol_start))]
 fn put_sobol_start<O: Sink>(out: &mut O) -> Result<(), Failed>
-    ensures { WritesTo O.told O.faults out.old out.new result sobol_start }
+    ensures { WritesTo O.told O.faults O.sure out.old out.new result sobol_start }
 {
     put_bytes(out, b"sobol ")
 }
 
 /// Writes the Sobol line of a parameter.
-#[tactic(auto, using(mls_text::proofs::Writing::chain))]
 fn put_parameter<O: Sink>(out: &mut O, name: &str, parts: &IndexParts) -> Result<(), Failed>
     requires { AreParts parts.now }
-    ensures { WritesTo O.told O.faults out.old out.new result (parameter_words name.now parts.now) }
+    ensures { WritesTo O.told O.faults O.sure out.old out.new result (parameter_words name.now parts.now) }
 {
     put_sobol_start(out)?;
     put_bytes(out, name.as_bytes())?;
@@ -148,7 +147,7 @@ pub fn put_sobol_lines<O: Sink>(
     requires own { parameters ≡ study.now.sizes.parameters }
     requires same { parameters_of sums.now ≡ study.now.sizes.parameters }
     ensures { (c : CellSums) → HasProducts study.now.sizes.parameters c sums.now →
-        WritesTo O.told O.faults out.old out.new result (sums_indices study.now c) }
+        WritesTo O.told O.faults O.sure out.old out.new result (sums_indices study.now c) }
 {
     study.valid();
     for k in 0..parameters {

@@ -44,7 +44,7 @@ impl HasCounts for RankCore<Field> {
 /// Writes the counts of each rank.
 #[tactic(auto, unfolding(mls_model::specs::ResultText::rank_lines))]
 pub(crate) fn put_ranks<O: Sink, C: HasCounts>(out: &mut O, ranks: &[C]) -> Result<(), Failed>
-    ensures { WritesTo O.told O.faults out.old out.new result (rank_lines (map C.kept ranks.now)) }
+    ensures { WritesTo O.told O.faults O.sure out.old out.new result (rank_lines (map C.kept ranks.now)) }
 {
     for rank in 0..ranks.len() {
         rank_line(rank as u64, &ranks[rank].rank_counts()).put(out)?;
@@ -55,7 +55,7 @@ pub(crate) fn put_ranks<O: Sink, C: HasCounts>(out: &mut O, ranks: &[C]) -> Resu
 /// Writes what is said of each lane.
 #[tactic(auto, unfolding(mls_model::specs::ResultText::lane_lines))]
 pub fn put_lanes<O: Sink>(out: &mut O, lanes: &[LaneLine]) -> Result<(), Failed>
-    ensures { WritesTo O.told O.faults out.old out.new result (lane_lines lanes.now) }
+    ensures { WritesTo O.told O.faults O.sure out.old out.new result (lane_lines lanes.now) }
 {
     for lane in lanes {
         lane_line(lane).put(out)?;
@@ -64,13 +64,14 @@ pub fn put_lanes<O: Sink>(out: &mut O, lanes: &[LaneLine]) -> Result<(), Failed>
 }
 
 /// Writes the rank lines of these counts in rising rank, and then the lane lines of these lanes. It takes no memory.
-/// After `Failed` a front of the lines went out.
+/// After `Failed` a front of the lines went out; that comes only where the sink takes fewer bytes for sure than they
+/// have.
 pub fn write_ranks<O: Sink>(
     counts: &[Counts],
     lanes: &[LaneLine],
     out: &mut O,
 ) -> Result<(), Failed>
-    ensures { WritesTo O.told O.faults out.old out.new result (rank_lines counts.now ++ lane_lines lanes.now) }
+    ensures { WritesTo O.told O.faults O.sure out.old out.new result (rank_lines counts.now ++ lane_lines lanes.now) }
 {
     put_ranks(out, counts)?;
     put_lanes(out, lanes)

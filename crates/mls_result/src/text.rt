@@ -32,7 +32,7 @@ fn put_cells<O: Sink>(
     requires step_in { step < study.now.sizes.steps }
     requires field_in { field < study.now.sizes.fields }
     requires cells { cells ≡ study.now.sizes.cells }
-    ensures { WritesTo O.told O.faults out.old out.new result
+    ensures { WritesTo O.told O.faults O.sure out.old out.new result
         (field_text study.now (kept_said study.now cores.now step field)) }
 {
     let shape = study.shape();
@@ -55,7 +55,7 @@ fn put_fields<O: Sink>(
     requires cores { AreCores study.now.sizes cores.now }
     requires step_in { step < study.now.sizes.steps }
     requires fields { fields ≡ study.now.sizes.fields }
-    ensures { WritesTo O.told O.faults out.old out.new result
+    ensures { WritesTo O.told O.faults O.sure out.old out.new result
         (step_text study.now (kept_said study.now cores.now step)) }
 {
     let cells = study.shape().cells();
@@ -75,7 +75,8 @@ fn put_steps<O: Sink>(
 ) -> Result<(), Failed>
     requires cores { AreCores study.now.sizes cores.now }
     requires steps { steps ≡ study.now.sizes.steps }
-    ensures { WritesTo O.told O.faults out.old out.new result (cells_text study.now (kept_said study.now cores.now)) }
+    ensures { WritesTo O.told O.faults O.sure out.old out.new result
+        (cells_text study.now (kept_said study.now cores.now)) }
 {
     let fields = study.shape().fields();
     for step in 0..steps {
@@ -87,7 +88,7 @@ fn put_steps<O: Sink>(
 /// Writes the last line.
 #[tactic(auto, unfolding(crate::specs::Words::end_words))]
 fn put_end<O: Sink>(out: &mut O) -> Result<(), Failed>
-    ensures { WritesTo O.told O.faults out.old out.new result end_words }
+    ensures { WritesTo O.told O.faults O.sure out.old out.new result end_words }
 {
     put_bytes(out, b"end\n")
 }
@@ -100,7 +101,7 @@ fn put_result<O: Sink>(
     lanes: &[LaneLine],
 ) -> Result<(), Failed>
     requires cores { AreCores study.now.sizes cores.now }
-    ensures { WritesTo O.told O.faults out.old out.new result (states_text study.now cores.now lanes.now) }
+    ensures { WritesTo O.told O.faults O.sure out.old out.new result (states_text study.now cores.now lanes.now) }
 {
     put_head(out, study)?;
     put_ranks(out, cores)?;
@@ -110,7 +111,8 @@ fn put_result<O: Sink>(
 }
 
 /// Writes the result text of a study, from the ranks' cores, one for each rank in order, and the lines of its lanes.
-/// It takes no memory. After `Failed` a front of the text went out.
+/// It takes no memory. After `Failed` a front of the text went out; that comes only where the sink takes fewer bytes
+/// for sure than the text has.
 pub fn write_result<O: Sink>(
     study: &Study,
     cores: &[RankCore<Field>],
@@ -118,9 +120,10 @@ pub fn write_result<O: Sink>(
     out: &mut O,
 ) -> Result<(), Failed>
     requires cores { AreCores study.now.sizes cores.now }
-    ensures states { WritesTo O.told O.faults out.old out.new result (states_text study.now cores.now lanes.now) }
+    ensures states { WritesTo O.told O.faults O.sure out.old out.new result
+        (states_text study.now cores.now lanes.now) }
     ensures histories { (histories : ℕ → List LaneEvent) → AllStand cores.now histories →
-        WritesTo O.told O.faults out.old out.new result (history_text study.now histories lanes.now) }
+        WritesTo O.told O.faults O.sure out.old out.new result (history_text study.now histories lanes.now) }
 {
     study.valid();
     put_result(out, study, cores, lanes)

@@ -1,10 +1,10 @@
 -- The numbers below one, and a loop over them that writes a text for each.
-use Rattle.std.proofs.Common.{◌≡◌, List, ℕ, zero, suc, [], ◌∷◌, ◌++◌, ◌+◌, ◌<◌, ◌≤◌, length, length-append, map, drop, get_or, Option, refl, sym, ◌∙◌, ap, subst, arith, inl, inr}
+use Rattle.std.proofs.Common.{◌≡◌, List, ℕ, zero, suc, [], ◌∷◌, ◌++◌, ◌+◌, ◌<◌, ◌≤◌, length, length-append, map, drop, get_or, refl, sym, ◌∙◌, ap, subst, arith, inl, inr}
 use Rattle.std.specs.List.{flat_map}
 use Rattle.std.proofs.lemmas.Bool.{cases_lt}
 use Rattle.std.proofs.lemmas.List.{get_or_append_left, get_or_push}
-use Rattle.mls_base.specs.Told.{appended, WroteFront}
 use Rattle.mls_model.specs.Numbers.{below}
+use Rattle.mls_text.specs.Writing.{SinkState, Wrote, FailedAfter}
 use Rattle.mls_text.proofs.Writing.{IsFrontOut, texts_more, texts_failed, texts_all}
 
 pub length-below : (n : ℕ) → length (below n) ≡ n
@@ -19,16 +19,16 @@ get_or-below (suc n) i d here = elim (cases_lt i n) [
 ]
 
 -- one text more is out, one failed, all are out
-pub number_more : (f : ℕ → List ℕ) (i n : ℕ) (text : List ℕ) (old mid new : Option (List ℕ)) (before now after : ℕ) → i < n → IsFrontOut (flat_map f (drop i (below n))) text old mid before now → new ≡ appended mid (f i) → after ≡ now → IsFrontOut (flat_map f (drop (i + 1) (below n))) text old new before after
-number_more f i n text old mid new before now after here out is_new is_now =
-    texts_more f i (below n) 0 text old mid new before now after (omega (arith, here, length-below n)) out (is_new ∙ ap (λ j. appended mid (f j)) (sym (get_or-below n i 0 here))) is_now
+pub number_more : (f : ℕ → List ℕ) (i n : ℕ) (text : List ℕ) (old mid new : SinkState) → i < n → IsFrontOut (flat_map f (drop i (below n))) text old mid → Wrote mid new (f i) → IsFrontOut (flat_map f (drop (i + 1) (below n))) text old new
+number_more f i n text old mid new here so_far out =
+    texts_more f i (below n) 0 text old mid new (omega (arith, here, length-below n)) so_far (subst (λ j. Wrote mid new (f j)) (sym (get_or-below n i 0 here)) out)
 
-pub number_failed : (f : ℕ → List ℕ) (i n : ℕ) (text : List ℕ) (old mid new : Option (List ℕ)) (before now : ℕ) → i < n → IsFrontOut (flat_map f (drop i (below n))) text old mid before now → WroteFront mid new (f i) → WroteFront old new text
-number_failed f i n text old mid new before now here out failed =
-    texts_failed f i (below n) 0 text old mid new before now (omega (arith, here, length-below n)) out (subst (λ j. WroteFront mid new (f j)) (sym (get_or-below n i 0 here)) failed)
+pub number_failed : (f : ℕ → List ℕ) (i n : ℕ) (text : List ℕ) (old mid new : SinkState) → i < n → IsFrontOut (flat_map f (drop i (below n))) text old mid → FailedAfter mid new (f i) → FailedAfter old new text
+number_failed f i n text old mid new here so_far failed =
+    texts_failed f i (below n) 0 text old mid new (omega (arith, here, length-below n)) so_far (subst (λ j. FailedAfter mid new (f j)) (sym (get_or-below n i 0 here)) failed)
 
-pub number_all : (f : ℕ → List ℕ) (i n : ℕ) (text : List ℕ) (old new : Option (List ℕ)) (before now : ℕ) → n ≤ i → IsFrontOut (flat_map f (drop i (below n))) text old new before now → new ≡ appended old text
-number_all f i n text old new before now past out = texts_all f i (below n) text old new before now (omega (arith, past, length-below n)) out
+pub number_all : (f : ℕ → List ℕ) (i n : ℕ) (text : List ℕ) (old new : SinkState) → n ≤ i → IsFrontOut (flat_map f (drop i (below n))) text old new → Wrote old new text
+number_all f i n text old new past so_far = texts_all f i (below n) text old new (omega (arith, past, length-below n)) so_far
 
 -- so many numbers from one on
 abbrev from : ℕ → ℕ → List ℕ

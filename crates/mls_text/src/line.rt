@@ -58,7 +58,7 @@ impl Line {
 
     /// Writes the line. After `Failed` a front of it went out.
     pub fn put<O: Sink>(&self, out: &mut O) -> Result<(), Failed>
-        ensures { WritesTo O.told O.faults out.old out.new result self.now }
+        ensures { WritesTo O.told O.faults O.sure out.old out.new result self.now }
     {
         put_bytes(out, self.bytes.as_slice())
     }

@@ -1,13 +1,11 @@
-use Rattle.std.proofs.Common.{◌≡◌, List, ℕ, [], cond, sym, ◌∙◌, ap, subst, refl}
+use Rattle.std.proofs.Common.{◌≡◌, [], cond, sym, ◌∙◌, ap}
 use Rattle.std.proofs.lemmas.Bool.{cond-true, cond-false}
-use Rattle.mls_base.specs.Told.{appended}
 use Rattle.mls_model.specs.declared.studies.Statistic.TheVariants.{Power}
 use Rattle.mls_model.specs.Studies.{Sizes, shows}
 use Rattle.mls_model.specs.SumsText.{sums_powers}
 use Rattle.mls_field.specs.Stands.{shape_of}
 use Rattle.mls_field.specs.Kept.{sums_at}
-use Rattle.mls_text.specs.Writing.{Writes}
-use Rattle.mls_text.proofs.Writing.{appended-nil}
+use Rattle.mls_text.proofs.Writing.{none_out, line_out, line_writes}
 use Rattle.mls_result.proofs.cells.put_power.Goals as goal
 
 pub returns-then-shows : goal.returns-then-shows
@@ -15,10 +13,9 @@ returns-then-shows g c =
     let study = c.args.cell.now.study.now in
     let sums = sums_at c.args.cell.now.field.now c.args.cell.now.plane c.args.cell.now.place in
     let shown : cond (shows study Power) (sums_powers study.sizes.signed sums) [] ≡ sums_powers (shape_of c.args.cell.now.field.now).signed sums = cond-true _ _ _ (sym c.shows.ensures ∙ c.if-shows.true) ∙ ap (λ (z : Sizes). sums_powers z.signed sums) (sym c.args.cell.now.sizes) in
-    let P : List ℕ → Type 0 = λ text. Writes c.put_power_lines.result text (g.O.Sink.told c.args.out.now) (g.O.Sink.told c.put_power_lines.new.out) (g.O.Sink.faults c.args.out.now) (g.O.Sink.faults c.put_power_lines.new.out) in
-    subst P (sym shown) c.put_power_lines.ensures
+    line_writes _ _ _ _ _ (sym shown) c.put_power_lines.ensures
 
 pub returns : goal.returns
 returns g c =
     let hidden : cond (shows c.args.cell.now.study.now Power) (sums_powers c.args.cell.now.study.now.sizes.signed (sums_at c.args.cell.now.field.now c.args.cell.now.plane c.args.cell.now.place)) [] ≡ [] = cond-false _ _ _ (sym c.shows.ensures ∙ c.if-shows.false) in
-    (sym (appended-nil (g.O.Sink.told c.args.out.now)) ∙ ap (appended (g.O.Sink.told c.args.out.now)) (sym hidden), refl)
+    line_out _ _ _ _ (sym hidden) (none_out _)

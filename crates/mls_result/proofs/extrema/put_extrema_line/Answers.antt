@@ -1,11 +1,10 @@
-use Rattle.std.proofs.Common.{◌≡◌, ◌<◌, List, ℕ, sym, ◌∙◌, ap, subst, arith, to_z, of_z}
+use Rattle.std.proofs.Common.{◌≡◌, ◌<◌, sym, ◌∙◌, ap, arith, to_z, of_z}
 use Rattle.std.specs.Int.{w32}
 use Rattle.std.proofs.lemmas.Int.{ints}
 use Rattle.mls_model.specs.Studies.{Sizes}
 use Rattle.mls_model.specs.Samples.{unshifted}
 use Rattle.mls_field.specs.Stands.{shape_of}
 use Rattle.mls_field.specs.Kept.{sums_at}
-use Rattle.mls_text.specs.Writing.{Writes}
 use Rattle.mls_text.proofs.Writing.{line_writes}
 use Rattle.mls_result.specs.Words.{extrema_words}
 use Rattle.mls_result.proofs.Ends.{ends_of_none, ends_of_some}
@@ -14,8 +13,7 @@ use Rattle.mls_result.proofs.extrema.put_extrema_line.Goals as goal
 pub returns-then-rows-eq0 : goal.returns-then-rows-eq0
 returns-then-rows-eq0 g c =
     let none = c.rows-rows.ensures.kept c.args.cell ∙ omega arith in
-    let P : List ℕ → Type 0 = λ text. Writes c.put_no_ends.result text (g.O.Sink.told c.args.out.now) (g.O.Sink.told c.put_no_ends.new.out) (g.O.Sink.faults c.args.out.now) (g.O.Sink.faults c.put_no_ends.new.out) in
-    subst P (sym (ends_of_none (shape_of c.args.field.now).signed (sums_at c.args.field.now c.args.step c.args.cell) none)) c.put_no_ends.ensures
+    line_writes _ _ _ _ _ (sym (ends_of_none (shape_of c.args.field.now).signed (sums_at c.args.field.now c.args.step c.args.cell) none)) c.put_no_ends.ensures
 
 pub returns : goal.returns
 returns g c =
@@ -27,4 +25,4 @@ returns g c =
     let greatest = c.unshifted-greatest.ensures ∙ (λ i. unshifted (same i) ((c.greatest.ensures.value ∙ c.extrema-extrema.ensures.kept.greatest) i)) in
     let least_back : to_z w32 (of_z w32 c.unshifted-least.result) ≡ c.unshifted-least.result = omega (arith, ints) in
     let greatest_back : to_z w32 (of_z w32 c.unshifted-greatest.result) ≡ c.unshifted-greatest.result = omega (arith, ints) in
-    line_writes _ _ _ _ _ _ _ (sym (ends_of_some signed sums some ∙ (λ i. extrema_words (sym (least_back ∙ least) i) (sym (greatest_back ∙ greatest) i)))) (line_writes _ _ _ _ _ _ _ c.extrema_line.ensures c.put.ensures)
+    line_writes _ _ _ _ _ (sym (ends_of_some signed sums some ∙ (λ i. extrema_words (sym (least_back ∙ least) i) (sym (greatest_back ∙ greatest) i)))) (line_writes _ _ _ _ _ c.extrema_line.ensures c.put.ensures)

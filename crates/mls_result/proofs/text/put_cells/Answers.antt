@@ -1,12 +1,11 @@
 use Rattle.std.proofs.Common.{arith, ◌≡◌, ◌<◌, ◌≤◌, ◌∙◌, ap, sym, subst, length}
 use Rattle.std.specs.List.{flat_map}
-use Rattle.mls_base.specs.Told.{appended, WroteFront}
 use Rattle.mls_model.specs.Numbers.{below}
 use Rattle.mls_model.specs.Studies.{Sizes}
 use Rattle.mls_model.specs.Blocks.{block, rank_of}
 use Rattle.mls_model.specs.ResultText.{field_text}
 use Rattle.mls_rank.specs.Cores.{sizes_of, rank_of as core_rank}
-use Rattle.mls_text.proofs.Writing.{line_out, line_failed, rose_since, failed_writes}
+use Rattle.mls_text.proofs.Writing.{line_out, line_failed, failed_writes}
 use Rattle.mls_result.specs.Histories.{kept_said}
 use Rattle.mls_text.proofs.Counted.{number_more, number_failed, number_all}
 use Rattle.mls_result.proofs.CellWords.{cell_said_of}
@@ -39,10 +38,9 @@ returns-in_err-put_cell g c =
     let found = ap (λ z. rank_of z c.loop-cell.cell) (sym c.shape-shape.ensures) ∙ c.rank_of-rank.ensures.value in
     let same = cell_said_of study c.args.cores.now c.args.step c.args.field c.loop-cell.cell c.rank_of-rank.result c.index-cores-rank.result found in_ranks c.index-cores-rank.is in
     let said = kept_said study c.args.cores.now c.args.step c.args.field in
-    let kept = c.loop-cell.invariant in
-    let failed = number_failed said c.loop-cell.cell c.args.cells _ _ _ _ _ _ c.loop-cell-test.true kept (line_failed _ _ _ _ same c.in_err-put_cell.ensures.0) in
-    let whole = subst (λ n. WroteFront (g.O.Sink.told c.args.out.now) (g.O.Sink.told c.put_cell.new.out) (flat_map said (below n))) c.requires.cells failed in
-    failed_writes _ _ _ _ _ _ _ c.from_residual.ensures.1 whole (rose_since _ _ _ kept.faultless c.in_err-put_cell.ensures.1)
+    failed_writes _ _ _ _ _ c.from_residual.ensures.1
+    (line_failed _ _ _ _ (ap (λ n. flat_map said (below n)) c.requires.cells)
+    (number_failed said c.loop-cell.cell c.args.cells _ _ _ _ c.loop-cell-test.true c.loop-cell.invariant (line_failed _ _ _ _ same c.in_err-put_cell.ensures)))
 
 pub loop-cell-preserved : goal.loop-cell-preserved
 loop-cell-preserved g c =
@@ -51,12 +49,10 @@ loop-cell-preserved g c =
     let found = ap (λ z. rank_of z c.loop-cell.cell) (sym c.shape-shape.ensures) ∙ c.rank_of-rank.ensures.value in
     let same = cell_said_of study c.args.cores.now c.args.step c.args.field c.loop-cell.cell c.rank_of-rank.result c.index-cores-rank.result found in_ranks c.index-cores-rank.is in
     let said = kept_said study c.args.cores.now c.args.step c.args.field in
-    number_more said c.loop-cell.cell c.args.cells _ _ _ _ _ _ _ c.loop-cell-test.true c.loop-cell.invariant (line_out _ _ _ _ same c.in_ok-put_cell.ensures.0) c.in_ok-put_cell.ensures.1
+    number_more said c.loop-cell.cell c.args.cells _ _ _ _ c.loop-cell-test.true c.loop-cell.invariant (line_out _ _ _ _ same c.in_ok-put_cell.ensures)
 
 pub returns : goal.returns
 unfolding field_text
 returns g c =
     let said = kept_said c.args.study.now c.args.cores.now c.args.step c.args.field in
-    let kept = c.loop-cell.invariant in
-    let told = number_all said c.loop-cell.cell c.args.cells _ _ _ _ _ c.loop-cell-test.false kept in
-    (subst (λ n. (g.O.Sink.told c.loop-cell.out) ≡ appended (g.O.Sink.told c.args.out.now) (flat_map said (below n))) c.requires.cells told, kept.faultless)
+    line_out _ _ _ _ (ap (λ n. flat_map said (below n)) c.requires.cells) (number_all said c.loop-cell.cell c.args.cells _ _ _ c.loop-cell-test.false c.loop-cell.invariant)

@@ -1,9 +1,9 @@
-use Rattle.std.proofs.Common.{◌∙◌, subst, List, ℕ, get_or}
+use Rattle.std.proofs.Common.{◌∙◌, subst, get_or}
 use Rattle.mls_model.specs.Standing.{rank_table}
 use Rattle.mls_field.specs.Stands.{StandsFor}
 use Rattle.mls_rank.specs.Cores.{rank_of as core_rank, fold_of}
 use Rattle.mls_rank.proofs.Folds.{fold_sizes, fold_rank}
-use Rattle.mls_text.specs.Writing.{Writes}
+use Rattle.mls_text.proofs.Writing.{line_writes}
 use Rattle.mls_result.proofs.States.{FoldsStand, states_are}
 use Rattle.mls_result.proofs.Whole.{counts_are}
 use Rattle.mls_result.proofs.text.write_result.Goals as goal
@@ -25,5 +25,4 @@ returns-clause-histories g c = λ histories stand.
           );
     } in
     let text = states_are study cores histories c.args.lanes.now c.valid.ensures.sizes.some_ranks c.valid.ensures.count are (counts_are s cores histories are stand) folds in
-    let P : List ℕ → Type 0 = λ text. Writes c.put_result.result text (g.O.Sink.told c.args.out.now) (g.O.Sink.told c.put_result.new.out) (g.O.Sink.faults c.args.out.now) (g.O.Sink.faults c.put_result.new.out) in
-    subst P text c.put_result.ensures
+    line_writes _ _ _ _ _ text c.put_result.ensures
