@@ -8,3 +8,5 @@ pub mod RankTakes
 pub mod Offering
 pub mod TapeBooks
 pub mod RunLaws
+pub mod KeeperLaws
+pub mod KeeperPlaces

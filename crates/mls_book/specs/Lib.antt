@@ -7,3 +7,4 @@ pub mod Cores
 pub mod Books
 pub mod Offers
 pub mod Runs
+pub mod Keepers

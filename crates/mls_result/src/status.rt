@@ -1,5 +1,6 @@
 //! What the programs answer.
 
+use mls_ckpt::CkptWhy;
 use mls_study::StudyFault;
 use mls_tape::{SchedWhy, TapeWhy};
 use std::fmt;
@@ -48,6 +49,12 @@ pub enum Status {
     /// Output could not be written.
     #[error("cannot write")]
     WriteFault,
+    /// A call of this rank's checkpoint store failed.
+    #[error("checkpoint store of rank {rank} failed")]
+    KeeperFault { rank: u32 },
+    /// This rank's checkpoint store gave nothing, or bytes that are no checkpoint, the first wrong one at a place.
+    #[error("checkpoint of rank {rank}: {} at {at}", CheckpointText(*.why))]
+    CheckpointBad { rank: u32, at: u64, why: CkptWhy },
     /// Memory ran out.
     #[error("out of memory")]
     Memory,
@@ -78,6 +85,8 @@ impl Status {
             Status::Schedule { .. } => 4,
             Status::ReadFault => 5,
             Status::WriteFault => 6,
+            Status::KeeperFault { .. } => 7,
+            Status::CheckpointBad { .. } => 8,
             Status::Memory => 9,
             Status::NotBuilt { .. } => 10,
             Status::TooLong { .. } => 12,
@@ -117,6 +126,24 @@ impl fmt::Display for ScheduleText {
             SchedWhy::Rank => "rank",
             SchedWhy::Lane => "lane",
             SchedWhy::Count => "count",
+        })
+    }
+}
+
+/// The reason of a refused checkpoint, to be printed.
+#[derive(Clone, Copy, Debug)]
+struct CheckpointText(CkptWhy);
+
+impl fmt::Display for CheckpointText {
+    fn fmt<W: fmt::Write>(&self, f: &mut fmt::Formatter<W>) -> fmt::Result {
+        f.write_str(match self.0 {
+            CkptWhy::Absent => "absent",
+            CkptWhy::Magic => "magic",
+            CkptWhy::Version => "version",
+            CkptWhy::Shape => "shape",
+            CkptWhy::Short => "short",
+            CkptWhy::Range => "range",
+            CkptWhy::Trailing => "trailing",
         })
     }
 }
