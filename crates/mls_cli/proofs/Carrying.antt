@@ -1,5 +1,5 @@
 -- What a command answers, from how its inputs were loaded and its text was written.
-use Rattle.std.proofs.Common.{◌≡◌, ℕ, List, Option, Result, Ok, Err, refl, sym, subst}
+use Rattle.std.proofs.Common.{◌≡◌, ℕ, Bool, List, Option, Result, Ok, Err, refl, sym, subst}
 use Rattle.mls_base.specs.Told.{Names, Rose}
 use Rattle.mls_launch.specs.Writing.{WritesOut}
 use Rattle.mls_launch.specs.declared.faults.OutFault.{OutFault}
@@ -11,15 +11,15 @@ use Rattle.mls_cli.specs.declared.refusal.Refusal.TheVariants as refusal
 use Rattle.mls_cli.specs.Answers.{Answers, Carries, SinkState, out_status}
 use Rattle.mls_cli.specs.Refusals.{FileState, IsRefused, Counts, Loads, status_of}
 
-refused_answers : (r : Refusal) (right : Result (List ℕ) Status) (old : Option (List ℕ)) → IsRefused r right → Answers right old old (status_of r)
-refused_answers refusal.ReadFault right old is = refl
-refused_answers refusal.Memory right old is = refl
-refused_answers (refusal.Study fault) right old is = (is, refl)
-refused_answers (refusal.Tape at why) right old is = (is, refl)
-refused_answers (refusal.Schedule line why) right old is = (is, refl)
-refused_answers (refusal.NotBuilt part) right old is = (is, refl)
-refused_answers (refusal.TooLong file) right old is = (is, refl)
-refused_answers (refusal.Events line) right old is = (is, refl)
+refused_answers : (sound : Bool) (r : Refusal) (right : Result (List ℕ) Status) (old : Option (List ℕ)) → IsRefused sound r right → Answers sound right old old (status_of r)
+refused_answers sound refusal.ReadFault right old is = (is, refl)
+refused_answers sound refusal.Memory right old is = refl
+refused_answers sound (refusal.Study fault) right old is = (is, refl)
+refused_answers sound (refusal.Tape at why) right old is = (is, refl)
+refused_answers sound (refusal.Schedule line why) right old is = (is, refl)
+refused_answers sound (refusal.NotBuilt part) right old is = (is, refl)
+refused_answers sound (refusal.TooLong file) right old is = (is, refl)
+refused_answers sound (refusal.Events line) right old is = (is, refl)
 
 read_failed : (r : Refusal) (before now : ℕ) → Counts r before now → status_of r ≡ status.ReadFault → Rose before now
 read_failed refusal.ReadFault before now h e = h
@@ -55,30 +55,30 @@ no_usage (refusal.Events line) e = cc
 -- a command whose inputs are refused
 pub carried_refused : {A : Type 0} (view : A → List ℕ) (asked : Names → Result (List ℕ) Status) (old new : FileState) (out : SinkState) (r : Refusal) → Loads view asked old new (Err r) → Carries asked old new out out (status_of r)
 carried_refused view asked old new out r h = record {
-  right = λ held told. refused_answers r (asked held) out.told (h.right held told);
+  right = λ held told. refused_answers old.sound r (asked held) out.told (h.right held told);
   read_fault = read_failed r old.load_faults new.load_faults h.loads;
   write_fault = λ e. absurd (nothing_written r e);
   quiet = λ _. refl;
   saves = h.saves;
 }
 
-done_right : (right : Result (List ℕ) Status) (text : List ℕ) (old new : Option (List ℕ)) (s : Status) → right ≡ Ok text → Answers (Ok text) old new s → Answers right old new s
-done_right right text old new s is h =
-    let P : Result (List ℕ) Status → Type 0 = λ o. Answers o old new s in
+done_right : (sound : Bool) (right : Result (List ℕ) Status) (text : List ℕ) (old new : Option (List ℕ)) (s : Status) → right ≡ Ok text → Answers sound (Ok text) old new s → Answers sound right old new s
+done_right sound right text old new s is h =
+    let P : Result (List ℕ) Status → Type 0 = λ o. Answers sound o old new s in
     subst P (sym is) h
 
 -- a command whose text was made in memory and written
 pub carried_out : {A B : Type 0} (view : A → List ℕ) (asked : Names → Result (List ℕ) Status) (old new : FileState) (out out' : SinkState) (x : A) (answer : Result B OutFault)
     → Loads view asked old new (Ok x) → WritesOut answer (view x) out.told out'.told out.faults out'.faults → Carries asked old new out out' (out_status answer)
 carried_out view asked old new out out' x (Ok done) h w = record {
-  right = λ held told. done_right (asked held) (view x) out.told out'.told status.Done (h.right held told) w.0;
+  right = λ held told. done_right old.sound (asked held) (view x) out.told out'.told status.Done (h.right held told) w.0;
   read_fault = λ e. absurd (cc);
   write_fault = λ e. absurd (cc);
   quiet = λ q. absurd q;
   saves = h.saves;
 }
 carried_out view asked old new out out' x (Err WriteFault) h w = record {
-  right = λ held told. done_right (asked held) (view x) out.told out'.told status.WriteFault (h.right held told) w.0;
+  right = λ held told. done_right old.sound (asked held) (view x) out.told out'.told status.WriteFault (h.right held told) w.0;
   read_fault = λ e. absurd (cc);
   write_fault = λ e. w.1;
   quiet = λ q. absurd q;

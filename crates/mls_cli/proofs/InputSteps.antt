@@ -1,6 +1,6 @@
 -- Inputs that are loaded one after another, against what is right.
-use Rattle.std.proofs.Common.{◌≡◌, ℕ, List, Some, Result, Ok, Err, OnOk, MatchResult, IfErr, refl, ap, sym, ◌∙◌, subst}
-use Rattle.mls_base.specs.Told.{Names}
+use Rattle.std.proofs.Common.{◌≡◌, ℕ, Bool, true, List, Some, Result, Ok, Err, OnOk, MatchResult, IfErr, refl, ap, sym, ◌∙◌, subst}
+use Rattle.mls_base.specs.Told.{Names, StaysSound}
 use Rattle.mls_result.specs.declared.status.Status.{Status}
 use Rattle.mls_cli.specs.declared.refusal.Refusal.{Refusal}
 use Rattle.mls_cli.specs.declared.refusal.Refusal.TheVariants as refusal
@@ -8,20 +8,35 @@ use Rattle.mls_cli.specs.Inputs.{◌>>=◌}
 use Rattle.mls_cli.specs.Refusals.{FileState, IsRefused, Agrees, Counts, IsOfContent, Loads}
 
 -- a refusal of the first step is one of both
-pub refused_first : {A B : Type 0} (r : Refusal) (right : Result A Status) (next : A → Result B Status) → IsRefused r right → IsRefused r (right >>= next)
-refused_first refusal.ReadFault right next is = tt
-refused_first refusal.Memory right next is = tt
-refused_first (refusal.Study fault) right next is = ap (λ o. o >>= next) is
-refused_first (refusal.Tape at why) right next is = ap (λ o. o >>= next) is
-refused_first (refusal.Schedule line why) right next is = ap (λ o. o >>= next) is
-refused_first (refusal.NotBuilt part) right next is = ap (λ o. o >>= next) is
-refused_first (refusal.TooLong file) right next is = ap (λ o. o >>= next) is
-refused_first (refusal.Events line) right next is = ap (λ o. o >>= next) is
+pub refused_first : {A B : Type 0} (sound : Bool) (r : Refusal) (right : Result A Status) (next : A → Result B Status) → IsRefused sound r right → IsRefused sound r (right >>= next)
+refused_first sound refusal.ReadFault right next is = λ s. ap (λ o. o >>= next) (is s)
+refused_first sound refusal.Memory right next is = tt
+refused_first sound (refusal.Study fault) right next is = ap (λ o. o >>= next) is
+refused_first sound (refusal.Tape at why) right next is = ap (λ o. o >>= next) is
+refused_first sound (refusal.Schedule line why) right next is = ap (λ o. o >>= next) is
+refused_first sound (refusal.NotBuilt part) right next is = ap (λ o. o >>= next) is
+refused_first sound (refusal.TooLong file) right next is = ap (λ o. o >>= next) is
+refused_first sound (refusal.Events line) right next is = ap (λ o. o >>= next) is
+
+-- what holds of sound files holds of less sound ones
+refused_less : {A : Type 0} (more less : Bool) (r : Refusal) (right : Result A Status) → StaysSound less more → IsRefused more r right → IsRefused less r right
+refused_less more less refusal.ReadFault right stays is = λ s. is (stays s)
+refused_less more less refusal.Memory right stays is = tt
+refused_less more less (refusal.Study fault) right stays is = is
+refused_less more less (refusal.Tape at why) right stays is = is
+refused_less more less (refusal.Schedule line why) right stays is = is
+refused_less more less (refusal.NotBuilt part) right stays is = is
+refused_less more less (refusal.TooLong file) right stays is = is
+refused_less more less (refusal.Events line) right stays is = is
+
+agrees_less : {A B : Type 0} (more less : Bool) (view : A → B) (result : Result A Refusal) (right : Result B Status) → StaysSound less more → Agrees more view result right → Agrees less view result right
+agrees_less more less view (Ok x) right stays is = is
+agrees_less more less view (Err r) right stays is = refused_less more less r right stays is
 
 -- what the second step answers is right for both
-pub agrees_second : {A B C : Type 0} (view : C → B) (result : Result C Refusal) (right : Result A Status) (x : A) (next : A → Result B Status) → right ≡ Ok x → Agrees view result (next x) → Agrees view result (right >>= next)
-agrees_second {A} view result right x next first second =
-    let P : Result A Status → Type 0 = λ o. Agrees view result (o >>= next) in
+pub agrees_second : {A B C : Type 0} (sound : Bool) (view : C → B) (result : Result C Refusal) (right : Result A Status) (x : A) (next : A → Result B Status) → right ≡ Ok x → Agrees sound view result (next x) → Agrees sound view result (right >>= next)
+agrees_second {A} sound view result right x next first second =
+    let P : Result A Status → Type 0 = λ o. Agrees sound view result (o >>= next) in
     subst P (sym first) second
 
 -- a refusal that is no failed read leaves the count of failed loads
@@ -52,11 +67,12 @@ counted_on result first second now same h = subst (λ (n : ℕ). MatchResult res
 
 -- bytes that were loaded, and what is read in them
 pub content_of : {A B : Type 0} (bytes : List ℕ) (view : A → B) (asked : Names → Result (List ℕ) Status) (next : List ℕ → Result B Status) (old new : FileState) (result : Result A Refusal)
-    → ((held : Names) → old.held ≡ Some held → asked held ≡ Ok bytes) → new.held ≡ old.held → new.load_faults ≡ old.load_faults → new.save_faults ≡ old.save_faults
-    → Agrees view result (next bytes) → IfErr result IsOfContent → Loads view (λ held. asked held >>= next) old new result
-content_of bytes view asked next old new result first same loads saves second content = record {
-  right = λ held told. agrees_second view result (asked held) bytes next (first held told) second;
+    → ((held : Names) → old.held ≡ Some held → asked held ≡ Ok bytes) → new.held ≡ old.held → StaysSound old.sound new.sound → new.load_faults ≡ old.load_faults → new.save_faults ≡ old.save_faults
+    → Agrees true view result (next bytes) → IfErr result IsOfContent → Loads view (λ held. asked held >>= next) old new result
+content_of bytes view asked next old new result first same sound loads saves second content = record {
+  right = λ held told. agrees_second old.sound view result (asked held) bytes next (first held told) (agrees_less true old.sound view result (next bytes) (λ s. refl) second);
   same = kept result same;
+  sound = sound;
   loads = counted result old.load_faults new.load_faults loads content;
   saves = saves;
 }
@@ -65,8 +81,9 @@ content_of bytes view asked next old new result first same loads saves second co
 pub loads_refused : {A B C D : Type 0} (first : A → B) (view : C → D) (asked : Names → Result B Status) (next : Names → B → Result D Status) (old new : FileState) (r : Refusal)
     → Loads first asked old new (Err r) → Loads view (λ held. asked held >>= next held) old new (Err r)
 loads_refused first view asked next old new r h = record {
-  right = λ held told. refused_first r (asked held) (next held) (h.right held told);
+  right = λ held told. refused_first old.sound r (asked held) (next held) (h.right held told);
   same = tt;
+  sound = h.sound;
   loads = h.loads;
   saves = h.saves;
 }
@@ -75,17 +92,19 @@ loads_refused first view asked next old new r h = record {
 pub loads_then : {A B C D : Type 0} (first : A → B) (view : C → D) (asked : Names → Result B Status) (next : Names → B → Result D Status) (old between new : FileState) (x : A) (result : Result C Refusal)
     → Loads first asked old between (Ok x) → Loads view (λ held. next held (first x)) between new result → Loads view (λ held. asked held >>= next held) old new result
 loads_then first view asked next old between new x result h k = record {
-  right = λ held told. agrees_second view result (asked held) (first x) (next held) (h.right held told) (k.right held (h.same ∙ told));
+  right = λ held told. agrees_second old.sound view result (asked held) (first x) (next held) (h.right held told) (agrees_less between.sound old.sound view result (next held (first x)) h.sound (k.right held (h.same ∙ told)));
   same = held_on result (λ e. e ∙ h.same) k.same;
+  sound = λ s. k.sound (h.sound s);
   loads = counted_on result old.load_faults between.load_faults new.load_faults h.loads k.loads;
   saves = k.saves ∙ h.saves;
 }
 
 -- nothing is loaded
-pub loads_nothing : {A B : Type 0} (view : A → B) (right : Result B Status) (files : FileState) (result : Result A Refusal) → Agrees view result right → IfErr result IsOfContent → Loads view (λ held. right) files files result
+pub loads_nothing : {A B : Type 0} (view : A → B) (right : Result B Status) (files : FileState) (result : Result A Refusal) → Agrees true view result right → IfErr result IsOfContent → Loads view (λ held. right) files files result
 loads_nothing view right files result is content = record {
-  right = λ held told. is;
+  right = λ held told. agrees_less true files.sound view result right (λ s. refl) is;
   same = kept result refl;
+  sound = λ s. s;
   loads = counted result files.load_faults files.load_faults refl content;
   saves = refl;
 }
@@ -95,6 +114,7 @@ pub loads_as : {A B C D : Type 0} (first : A → B) (view : C → D) (asked : Na
 loads_as first view asked make old new x y is h = record {
   right = λ held told. ap (λ o. o >>= (λ b. Ok (make b))) (h.right held told) ∙ ap Ok is;
   same = h.same;
+  sound = h.sound;
   loads = h.loads;
   saves = h.saves;
 }

@@ -11,7 +11,7 @@ use Rattle.mls_cli.specs.Inputs.{◌>>=◌, not_built}
 use Rattle.mls_cli.specs.Fold.{right_fold}
 use Rattle.mls_cli.specs.Watch.{right_watch}
 use Rattle.mls_cli.specs.Design.{right_design}
-use Rattle.mls_cli.specs.Answers.{Exactly}
+use Rattle.mls_cli.specs.Answers.{Exactly, IsRefusal}
 
 -- what a command asks for
 abbrev pub right_command : Words → Names → Result (List ℕ) Status
@@ -34,6 +34,6 @@ ideal held words = do
   command ← command_or_usage (words_of words)
   right_command command held
 
--- Where the files tell what they hold, a refusal is answered exactly where it is the one that these words ask for.
-abbrev pub RefusedExactly : Option Names → (words : List (List ℕ)) → (refusal answer : Status) → Type 0
-RefusedExactly told words refusal answer = (held : Names) → told ≡ Some held → Exactly (ideal held words) refusal answer
+-- Where the files tell what they hold, each refusal is answered exactly where it is the one that these words ask for.
+abbrev pub RefusesExactly : Option Names → (words : List (List ℕ)) → (answer : Status) → Type 0
+RefusesExactly told words answer = (held : Names) → told ≡ Some held → (refusal : Status) → IsRefusal refusal → Exactly (ideal held words) refusal answer

@@ -1,15 +1,10 @@
 //! The top call.
 
-ghost use Rattle.std.specs.Prelude.{◌≡◌, ◌↔◌, ℕ, map, string_bytes, vec_len, None, Some};
+ghost use Rattle.std.specs.Prelude.{◌≡◌, ◌↔◌, map, string_bytes, vec_len, None, Some, IsTrue};
 ghost use Rattle.mls_base.specs.Told.{Names, Rose};
-ghost use Rattle.mls_study.specs.declared.fault.StudyFault.{StudyFault};
-ghost use Rattle.mls_model.specs.declared.lanes.SchedWhy.{SchedWhy};
-ghost use Rattle.mls_model.specs.declared.lanes.TapeWhy.{TapeWhy};
-ghost use Rattle.mls_result.specs.declared.status.FileRole.{FileRole};
-ghost use Rattle.mls_result.specs.declared.status.Unbuilt.{Unbuilt};
 ghost use Rattle.mls_cli.specs.Words.{words_of};
-ghost use Rattle.mls_cli.specs.Ideal.{RefusedExactly, ideal, right_command};
-ghost use Rattle.mls_cli.specs.Answers.{Answers, Carries, DidNotRise, IsDoneOrMemory, IsQuiet, IsRight, sink};
+ghost use Rattle.mls_cli.specs.Ideal.{RefusesExactly, ideal, right_command};
+ghost use Rattle.mls_cli.specs.Answers.{Answers, Carries, DidNotRise, IsAsked, IsDoneOrMemory, IsQuiet, IsRight, sink};
 ghost use Rattle.mls_cli.specs.Refusals.{seen};
 
 use crate::design::run_design;
@@ -30,7 +25,8 @@ fn carry_out<F: Files, O: Sink, K: Keeper + Drop>(
 ) -> (Status, Vec<K>)
     requires { vec_len keepers ≡ 64 }
     ensures carried { Carries (right_command command)
-        (seen F.held F.load_faults F.save_faults files.old) (seen F.held F.load_faults F.save_faults files.new)
+        (seen F.held F.sound F.load_faults F.save_faults files.old)
+        (seen F.held F.sound F.load_faults F.save_faults files.new)
         (sink O.told O.faults out.old) (sink O.told O.faults out.new) result.0 }
     ensures no_usage { result.0 ≡ Status.Usage → ⊥ }
     ensures keepers { result.1 ≡ keepers }
@@ -74,7 +70,8 @@ fn run<F: Files, O: Sink, K: Keeper + Drop>(
 ) -> (Status, Vec<K>)
     requires { vec_len keepers ≡ 64 }
     ensures carried { Carries (λ held. ideal held (map string_bytes words.now))
-        (seen F.held F.load_faults F.save_faults files.old) (seen F.held F.load_faults F.save_faults files.new)
+        (seen F.held F.sound F.load_faults F.save_faults files.old)
+        (seen F.held F.sound F.load_faults F.save_faults files.new)
         (sink O.told O.faults out.old) (sink O.told O.faults out.new) result.0 }
     ensures usage { (result.0 ≡ Status.Usage) ↔ (words_of (map string_bytes words.now) ≡ None) }
     ensures keepers { result.1 ≡ keepers }
@@ -103,24 +100,20 @@ pub fn melissa<F: Files, O: Sink, K: Keeper + Drop>(
 
     // The text that is right, or the refusal that is.
     ensures right { (held : Names) → F.held files.old ≡ Some held →
-        Answers (ideal held (map string_bytes words.now)) (O.told out.old) (O.told out.new) result.0 }
+        Answers (F.sound files.old) (ideal held (map string_bytes words.now))
+        (O.told out.old) (O.told out.new) result.0 }
 
     // Where the words are no command, told files or not.
     ensures usage { (result.0 ≡ Status.Usage) ↔ (words_of (map string_bytes words.now) ≡ None) }
 
     // Each refusal comes exactly where it is the first, but that memory may be wanting or a read may fail before.
-    ensures study { (fault : StudyFault) →
-        RefusedExactly (F.held files.old) (map string_bytes words.now) (Status.Study fault) result.0 }
-    ensures tape { (at : ℕ) (why : TapeWhy) →
-        RefusedExactly (F.held files.old) (map string_bytes words.now) (Status.Tape at why) result.0 }
-    ensures schedule { (line : ℕ) (why : SchedWhy) →
-        RefusedExactly (F.held files.old) (map string_bytes words.now) (Status.Schedule line why) result.0 }
-    ensures events { (line : ℕ) →
-        RefusedExactly (F.held files.old) (map string_bytes words.now) (Status.Events line) result.0 }
-    ensures too_long { (file : FileRole) →
-        RefusedExactly (F.held files.old) (map string_bytes words.now) (Status.TooLong file) result.0 }
-    ensures not_built { (part : Unbuilt) →
-        RefusedExactly (F.held files.old) (map string_bytes words.now) (Status.NotBuilt part) result.0 }
+    ensures refused { RefusesExactly (F.held files.old) (map string_bytes words.now) result.0 }
+
+    // Over sound files that tell, where no write failed, the answer is the one that the words and the files ask for, or
+    // memory is wanting: a read fails exactly where the first refusal is that a name isn't held.
+    ensures sound { (held : Names) → F.held files.old ≡ Some held → IsTrue (F.sound files.old) →
+        DidNotRise (O.faults out.old) (O.faults out.new) →
+        IsAsked (ideal held (map string_bytes words.now)) result.0 }
 
     // The causes of faults of the outside.
     ensures read_fault { result.0 ≡ Status.ReadFault → Rose (F.load_faults files.old) (F.load_faults files.new) }

@@ -36,7 +36,8 @@ pub(crate) fn run_design<F: Files, O: Sink>(
     out: &mut O,
 ) -> Status
     ensures carried { Carries (right_design study_name.now)
-        (seen F.held F.load_faults F.save_faults files.old) (seen F.held F.load_faults F.save_faults files.new)
+        (seen F.held F.sound F.load_faults F.save_faults files.old)
+        (seen F.held F.sound F.load_faults F.save_faults files.new)
         (sink O.told O.faults out.old) (sink O.told O.faults out.new) result }
     ensures no_usage { result ≡ Status.Usage → ⊥ }
 {

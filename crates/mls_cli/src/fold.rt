@@ -35,7 +35,8 @@ pub(crate) fn run_fold<F: Files, O: Sink, K: Keeper + Drop>(
 ) -> (Status, Vec<K>)
     requires { vec_len keepers ≡ 64 }
     ensures carried { Carries (right_fold study_name.now tape_name.now schedule_name.now)
-        (seen F.held F.load_faults F.save_faults files.old) (seen F.held F.load_faults F.save_faults files.new)
+        (seen F.held F.sound F.load_faults F.save_faults files.old)
+        (seen F.held F.sound F.load_faults F.save_faults files.new)
         (sink O.told O.faults out.old) (sink O.told O.faults out.new) result.0 }
     ensures no_usage { result.0 ≡ Status.Usage → ⊥ }
     ensures keepers { result.1 ≡ keepers }

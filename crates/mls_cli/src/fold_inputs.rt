@@ -30,7 +30,7 @@ pub(crate) struct FoldInputs {
 
 /// The tape, if all that it asks for is built.
 fn if_calm(tape: Tape) -> Result<Tape, Refusal>
-    ensures right { Agrees (λ t. t.lanes) result (built_tape tape.lanes) }
+    ensures right { Agrees true (λ t. t.lanes) result (built_tape tape.lanes) }
     ensures same { IfOk result (λ t. t ≡ tape) }
     ensures calm { IfOk result (λ t. is_calm t.lanes ≡ true) }
     ensures content { IfErr result IsOfContent }
@@ -46,7 +46,7 @@ fn if_calm(tape: Tape) -> Result<Tape, Refusal>
 /// The tape in these bytes.
 fn tape_in(alloc: Global, study: &Study, bytes: Vec<u8>) -> Result<Tape, Refusal>
     requires { vec_len bytes ≤ longest_tape }
-    ensures right { Agrees (λ t. t.lanes) result (content_lanes study.now bytes.items) }
+    ensures right { Agrees true (λ t. t.lanes) result (content_lanes study.now bytes.items) }
     ensures ranks { IfOk result (λ t. t.ranks ≡ study.now.sizes.ranks) }
     ensures calm { IfOk result (λ t. is_calm t.lanes ≡ true) }
     ensures content { IfErr result IsOfContent }
@@ -67,7 +67,8 @@ fn load_tape<F: Files>(
     name: &str,
 ) -> Result<Tape, Refusal>
     ensures loads { Loads (λ t. t.lanes) (right_lanes study.now name.now)
-        (seen F.held F.load_faults F.save_faults files.old) (seen F.held F.load_faults F.save_faults files.new) result }
+        (seen F.held F.sound F.load_faults F.save_faults files.old)
+        (seen F.held F.sound F.load_faults F.save_faults files.new) result }
     ensures ranks { IfOk result (λ t. t.ranks ≡ study.now.sizes.ranks) }
     ensures calm { IfOk result (λ t. is_calm t.lanes ≡ true) }
 {
@@ -78,7 +79,7 @@ fn load_tape<F: Files>(
 /// The schedule in these bytes.
 fn schedule_in(alloc: Global, tape: &Tape, bytes: &[u8]) -> Result<Schedule, Refusal>
     requires { length bytes.now ≤ longest_schedule }
-    ensures right { Agrees (λ s. s) result (content_schedule tape.now.ranks tape.now.lanes bytes.now) }
+    ensures right { Agrees true (λ s. s) result (content_schedule tape.now.ranks tape.now.lanes bytes.now) }
     ensures legal { IfOk result (λ s. is_legal tape.now.ranks tape.now.lanes s ≡ true) }
     ensures content { IfErr result IsOfContent }
 {
@@ -97,7 +98,8 @@ fn load_named_schedule<F: Files>(
     name: &str,
 ) -> Result<Schedule, Refusal>
     ensures loads { Loads (λ s. s) (right_orders tape.now.ranks tape.now.lanes (Some name.now))
-        (seen F.held F.load_faults F.save_faults files.old) (seen F.held F.load_faults F.save_faults files.new) result }
+        (seen F.held F.sound F.load_faults F.save_faults files.old)
+        (seen F.held F.sound F.load_faults F.save_faults files.new) result }
     ensures legal { IfOk result (λ s. is_legal tape.now.ranks tape.now.lanes s ≡ true) }
 {
     let bytes = load(alloc, files, name, LONGEST_SCHEDULE, FileRole::Schedule)?;
@@ -106,7 +108,7 @@ fn load_named_schedule<F: Files>(
 
 /// The plain schedule of the tape.
 fn plain_schedule(alloc: Global, tape: &Tape) -> Result<Schedule, Refusal>
-    ensures right { Agrees (λ s. s) result (Ok (plain tape.now.ranks tape.now.lanes)) }
+    ensures right { Agrees true (λ s. s) result (Ok (plain tape.now.ranks tape.now.lanes)) }
     ensures legal { IfOk result (λ s. is_legal tape.now.ranks tape.now.lanes s ≡ true) }
     ensures content { IfErr result IsOfContent }
 {
@@ -124,7 +126,8 @@ fn load_schedule<F: Files>(
     name: &Option<Name>,
 ) -> Result<Schedule, Refusal>
     ensures loads { Loads (λ s. s) (right_orders tape.now.ranks tape.now.lanes name.now)
-        (seen F.held F.load_faults F.save_faults files.old) (seen F.held F.load_faults F.save_faults files.new) result }
+        (seen F.held F.sound F.load_faults F.save_faults files.old)
+        (seen F.held F.sound F.load_faults F.save_faults files.new) result }
     ensures legal { IfOk result (λ s. is_legal tape.now.ranks tape.now.lanes s ≡ true) }
 {
     match name {
@@ -143,7 +146,8 @@ pub(crate) fn load_inputs<F: Files>(
 ) -> Result<FoldInputs, Refusal>
     ensures loads { Loads (λ (inputs : FoldInputs). result_text inputs.study inputs.tape.lanes inputs.schedule)
         (right_fold study_name.now tape_name.now schedule_name.now)
-        (seen F.held F.load_faults F.save_faults files.old) (seen F.held F.load_faults F.save_faults files.new) result }
+        (seen F.held F.sound F.load_faults F.save_faults files.old)
+        (seen F.held F.sound F.load_faults F.save_faults files.new) result }
     ensures calm { IfOk result (λ inputs. is_calm inputs.tape.lanes ≡ true) }
     ensures legal { IfOk result
         (λ inputs. is_legal inputs.study.sizes.ranks inputs.tape.lanes inputs.schedule ≡ true) }

@@ -1,6 +1,6 @@
 //! The reading of the files that a command begins with, and its study.
 
-ghost use Rattle.std.specs.Prelude.{◌≡◌, ◌≤◌, IfOk, IfErr, vec_len};
+ghost use Rattle.std.specs.Prelude.{◌≡◌, ◌≤◌, true, IfOk, IfErr, vec_len};
 ghost use Rattle.mls_cli.specs.Inputs.{study_limit, limited, content_study, right_study};
 ghost use Rattle.mls_cli.specs.Refusals.{Agrees, IsOfContent, Loads, seen};
 
@@ -23,7 +23,8 @@ pub(crate) fn load<F: Files>(
     file: FileRole,
 ) -> Result<Vec<u8>, Refusal>
     ensures loads { Loads (λ bytes. bytes.items) (λ held. limited file max (held name.now))
-        (seen F.held F.load_faults F.save_faults files.old) (seen F.held F.load_faults F.save_faults files.new) result }
+        (seen F.held F.sound F.load_faults F.save_faults files.old)
+        (seen F.held F.sound F.load_faults F.save_faults files.new) result }
     ensures within { IfOk result (λ bytes. vec_len bytes ≤ max) }
 {
     match files.load(alloc, name, max) {
@@ -36,7 +37,7 @@ pub(crate) fn load<F: Files>(
 
 /// The study in these bytes.
 fn study_in(alloc: Global, bytes: &[u8]) -> Result<Study, Refusal>
-    ensures right { Agrees (λ s. s) result (content_study bytes.now) }
+    ensures right { Agrees true (λ s. s) result (content_study bytes.now) }
     ensures content { IfErr result IsOfContent }
 {
     match read_study(alloc, bytes) {
@@ -52,7 +53,8 @@ pub(crate) fn load_study<F: Files>(
     name: &str,
 ) -> Result<Study, Refusal>
     ensures { Loads (λ s. s) (right_study name.now)
-        (seen F.held F.load_faults F.save_faults files.old) (seen F.held F.load_faults F.save_faults files.new) result }
+        (seen F.held F.sound F.load_faults F.save_faults files.old)
+        (seen F.held F.sound F.load_faults F.save_faults files.new) result }
 {
     let bytes = load(alloc, files, name, STUDY_LIMIT, FileRole::Study)?;
     study_in(alloc, bytes.as_slice())

@@ -1,6 +1,6 @@
 //! The command `watch`.
 
-ghost use Rattle.std.specs.Prelude.{◌≡◌, ◌≤◌, length, IfErr};
+ghost use Rattle.std.specs.Prelude.{◌≡◌, ◌≤◌, length, true, IfErr};
 ghost use Rattle.mls_model.specs.WatchText.{watch_text};
 ghost use Rattle.mls_launch.specs.Writing.{WritesOut};
 ghost use Rattle.mls_cli.specs.Watch.{events_limit, content_events, right_events, right_watch};
@@ -29,7 +29,7 @@ struct WatchInputs {
 /// The events in these bytes.
 fn events_in(alloc: Global, bytes: &[u8]) -> Result<Vec<Event>, Refusal>
     requires { length bytes.now ≤ events_limit }
-    ensures right { Agrees (λ e. e.items) result (content_events bytes.now) }
+    ensures right { Agrees true (λ e. e.items) result (content_events bytes.now) }
     ensures content { IfErr result IsOfContent }
 {
     match read_events(alloc, bytes) {
@@ -42,7 +42,8 @@ fn events_in(alloc: Global, bytes: &[u8]) -> Result<Vec<Event>, Refusal>
 /// The events of a name.
 fn load_events<F: Files>(alloc: Global, files: &mut F, name: &str) -> Result<Vec<Event>, Refusal>
     ensures { Loads (λ e. e.items) (right_events name.now)
-        (seen F.held F.load_faults F.save_faults files.old) (seen F.held F.load_faults F.save_faults files.new) result }
+        (seen F.held F.sound F.load_faults F.save_faults files.old)
+        (seen F.held F.sound F.load_faults F.save_faults files.new) result }
 {
     let bytes = load(alloc, files, name, EVENTS_LIMIT, FileRole::Events)?;
     events_in(alloc, bytes.as_slice())
@@ -57,7 +58,8 @@ fn load_inputs<F: Files>(
 ) -> Result<WatchInputs, Refusal>
     ensures { Loads (λ (inputs : WatchInputs). watch_text inputs.study.sizes inputs.events.items)
         (right_watch study_name.now events_name.now)
-        (seen F.held F.load_faults F.save_faults files.old) (seen F.held F.load_faults F.save_faults files.new) result }
+        (seen F.held F.sound F.load_faults F.save_faults files.old)
+        (seen F.held F.sound F.load_faults F.save_faults files.new) result }
 {
     let study = load_study(alloc, files, study_name)?;
     let events = load_events(alloc, files, events_name)?;
@@ -82,7 +84,8 @@ pub(crate) fn run_watch<F: Files, O: Sink>(
     out: &mut O,
 ) -> Status
     ensures carried { Carries (right_watch study_name.now events_name.now)
-        (seen F.held F.load_faults F.save_faults files.old) (seen F.held F.load_faults F.save_faults files.new)
+        (seen F.held F.sound F.load_faults F.save_faults files.old)
+        (seen F.held F.sound F.load_faults F.save_faults files.new)
         (sink O.told O.faults out.old) (sink O.told O.faults out.new) result }
     ensures no_usage { result ≡ Status.Usage → ⊥ }
 {

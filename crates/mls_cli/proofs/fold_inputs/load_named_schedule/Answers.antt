@@ -13,4 +13,4 @@ returns-in_err-bytes-clause-loads g c =
 pub returns-clause-loads : goal.returns-clause-loads
 returns-clause-loads g c =
     let h = c.in_ok-bytes.ensures.loads in
-    content_of _ (λ s. s) _ (content_schedule c.args.tape.now.ranks c.args.tape.now.lanes) _ _ c.schedule_in.result h.right h.same h.loads h.saves (rw (sym c.as_slice.ensures.value) c.schedule_in.ensures.right) c.schedule_in.ensures.content
+    content_of _ (λ s. s) _ (content_schedule c.args.tape.now.ranks c.args.tape.now.lanes) _ _ c.schedule_in.result h.right h.same h.sound h.loads h.saves (rw (sym c.as_slice.ensures.value) c.schedule_in.ensures.right) c.schedule_in.ensures.content

@@ -14,4 +14,4 @@ pub returns-clause-loads : goal.returns-clause-loads
 unfolding right_lanes
 returns-clause-loads g c =
     let h = c.in_ok-bytes.ensures.loads in
-    content_of _ (λ t. t.lanes) _ (content_lanes c.args.study.now) _ _ c.tape_in.result h.right h.same h.loads h.saves c.tape_in.ensures.right c.tape_in.ensures.content
+    content_of _ (λ t. t.lanes) _ (content_lanes c.args.study.now) _ _ c.tape_in.result h.right h.same h.sound h.loads h.saves c.tape_in.ensures.right c.tape_in.ensures.content

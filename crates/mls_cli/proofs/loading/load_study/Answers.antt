@@ -15,4 +15,4 @@ pub returns : goal.returns
 unfolding right_study
 returns g c =
     let h = c.in_ok-bytes.ensures.loads in
-    content_of _ (λ s. s) _ content_study _ _ c.study_in.result h.right h.same h.loads h.saves (rw (sym c.as_slice.ensures.value) c.study_in.ensures.right) c.study_in.ensures.content
+    content_of _ (λ s. s) _ content_study _ _ c.study_in.result h.right h.same h.sound h.loads h.saves (rw (sym c.as_slice.ensures.value) c.study_in.ensures.right) c.study_in.ensures.content

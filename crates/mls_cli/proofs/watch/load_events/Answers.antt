@@ -15,4 +15,4 @@ pub returns : goal.returns
 unfolding right_events
 returns g c =
     let h = c.in_ok-bytes.ensures.loads in
-    content_of _ (λ e. e.items) _ content_events _ _ c.events_in.result h.right h.same h.loads h.saves (rw (sym c.as_slice.ensures.value) c.events_in.ensures.right) c.events_in.ensures.content
+    content_of _ (λ e. e.items) _ content_events _ _ c.events_in.result h.right h.same h.sound h.loads h.saves (rw (sym c.as_slice.ensures.value) c.events_in.ensures.right) c.events_in.ensures.content
