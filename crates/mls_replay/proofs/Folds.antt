@@ -11,22 +11,20 @@ use Rattle.mls_model.specs.declared.lanes.LaneLine.{LaneLine}
 use Rattle.mls_model.specs.Numbers.{element}
 use Rattle.mls_model.specs.Studies.{Sizes, Study}
 use Rattle.mls_model.specs.Lanes.{Lane, line_of}
-use Rattle.mls_model.specs.Histories.{LaneEvent, history}
+use Rattle.mls_model.specs.Histories.{history}
 use Rattle.mls_model.specs.ResultText.{histories_of, history_text, lines_of, result_text}
 use Rattle.mls_rank.specs.declared.rank_core.RankCore.{RankCore}
 use Rattle.mls_rank.specs.Cores.{sizes_of, rank_of}
-use Rattle.mls_rank.specs.Standing.{StandsFor}
-use Rattle.mls_result.specs.Histories.{AreCores, AllStand}
+use Rattle.mls_result.specs.Histories.{AreCores}
 
--- The first n cores: one for each of the first n ranks, in order, each standing for its rank's history.
-pub record AreFirst {F : Type 0} {T : Ghosts F} (s : Sizes) (histories : ℕ → List LaneEvent) (n : ℕ) (cores : List (RankCore F T)) : Type 0 where
+-- The first n cores: one for each of the first n ranks, in order.
+pub record AreFirst {F : Type 0} {T : Ghosts F} (s : Sizes) (n : ℕ) (cores : List (RankCore F T)) : Type 0 where
   pub count : length cores ≡ n
   pub sizes : (rank : ℕ) (d : RankCore F T) → rank < n → sizes_of (get_or cores rank d) ≡ s
   pub ranks : (rank : ℕ) (d : RankCore F T) → rank < n → rank_of (get_or cores rank d) ≡ rank
-  pub stand : (rank : ℕ) (d : RankCore F T) → rank < n → StandsFor (get_or cores rank d) (histories rank)
 
-pub none_yet : {F : Type 0} {T : Ghosts F} (s : Sizes) (histories : ℕ → List LaneEvent) (cores : List (RankCore F T)) → cores ≡ [] → AreFirst s histories 0 cores
-none_yet {F} {T} s histories cores empty = subst (AreFirst s histories 0) (sym empty) (record { count = refl; sizes = λ rank d here. absurd (omega (arith, here)); ranks = λ rank d here. absurd (omega (arith, here)); stand = λ rank d here. absurd (omega (arith, here)) })
+pub none_yet : {F : Type 0} {T : Ghosts F} (s : Sizes) (cores : List (RankCore F T)) → cores ≡ [] → AreFirst s 0 cores
+none_yet s cores empty = subst (AreFirst s 0) (sym empty) (record { count = refl; sizes = λ rank d here. absurd (omega (arith, here)); ranks = λ rank d here. absurd (omega (arith, here)) })
 
 -- what holds of each of the first n and of the next holds of each of them
 each_more : {C : Type 0} (P : ℕ → C → Type 0) (cores : List C) (core : C) (n : ℕ) → length cores ≡ n → ((rank : ℕ) (d : C) → rank < n → P rank (get_or cores rank d)) → P n core → (rank : ℕ) (d : C) → rank < n + 1 → P rank (get_or (cores ++ core ∷ []) rank d)
@@ -39,24 +37,20 @@ each_more {C} P cores core n count first next rank d here = elim (cases_lt rank 
       subst (P rank) (sym is_core) (subst (λ k. P k core) own next)
 ]
 
-pub one_more : {F : Type 0} {T : Ghosts F} (s : Sizes) (histories : ℕ → List LaneEvent) (n : ℕ) (cores cores' : List (RankCore F T)) (core : RankCore F T) → AreFirst s histories n cores → cores' ≡ cores ++ core ∷ [] → sizes_of core ≡ s → rank_of core ≡ n → StandsFor core (histories n) → AreFirst s histories (n + 1) cores'
-one_more {F} {T} s histories n cores cores' core first pushed is_sizes is_rank stands = subst (AreFirst s histories (n + 1)) (sym pushed) (record {
+pub one_more : {F : Type 0} {T : Ghosts F} (s : Sizes) (n : ℕ) (cores cores' : List (RankCore F T)) (core : RankCore F T) → AreFirst s n cores → cores' ≡ cores ++ core ∷ [] → sizes_of core ≡ s → rank_of core ≡ n → AreFirst s (n + 1) cores'
+one_more {F} {T} s n cores cores' core first pushed is_sizes is_rank = subst (AreFirst s (n + 1)) (sym pushed) (record {
   count = omega (arith, first.count, length-append cores (core ∷ []));
   sizes = each_more (λ rank c. sizes_of c ≡ s) cores core n first.count first.sizes is_sizes;
   ranks = each_more (λ rank c. rank_of c ≡ rank) cores core n first.count first.ranks is_rank;
-  stand = each_more (λ rank c. StandsFor c (histories rank)) cores core n first.count first.stand stands;
 })
 
 -- the first of as many as there are ranks are all
-pub all_cores : {F : Type 0} {T : Ghosts F} (s : Sizes) (histories : ℕ → List LaneEvent) (n : ℕ) (cores : List (RankCore F T)) → AreFirst s histories n cores → n ≡ s.ranks → AreCores s cores
-all_cores {F} {T} s histories n cores first all = record {
+pub all_cores : {F : Type 0} {T : Ghosts F} (s : Sizes) (n : ℕ) (cores : List (RankCore F T)) → AreFirst s n cores → n ≡ s.ranks → AreCores s cores
+all_cores s n cores first all = record {
   count = first.count ∙ all;
   sizes = λ rank d here. first.sizes rank d (omega (arith, here, first.count));
   ranks = λ rank d here. first.ranks rank d (omega (arith, here, first.count));
 }
-
-pub all_stand : {F : Type 0} {T : Ghosts F} (s : Sizes) (histories : ℕ → List LaneEvent) (n : ℕ) (cores : List (RankCore F T)) → AreFirst s histories n cores → AllStand cores histories
-all_stand {F} {T} s histories n cores first = record { each = λ rank d here. first.stand rank d (omega (arith, here, first.count)) }
 
 -- the history of a rank whose list is known
 pub history_is : (lanes : List Lane) (orders : List (List ℕ)) (rank : ℕ) (order : List ℕ) → element orders rank ≡ Some order → histories_of lanes orders rank ≡ history lanes order

@@ -1,5 +1,4 @@
-pub mod CalmEvents
-pub mod CalmWalk
 pub mod Orders
 pub mod Taking
 pub mod Folds
+pub mod Running

@@ -1,3 +1,1 @@
-pub mod Calm
 pub mod Folding
-pub mod Taken

@@ -1,9 +1,7 @@
 //! The serial fold: each rank takes the events of its list in turn, and the result is written from the ranks' cores.
 #![tactic(auto)]
 
-mod calm;
 mod folding;
 mod ranks;
 
-pub use calm::is_calm;
 pub use folding::{fold, fold_cores};

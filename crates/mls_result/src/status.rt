@@ -21,8 +21,6 @@ pub enum FileRole {
 pub enum Unbuilt {
     /// A command other than `fold`, `design` and `watch`.
     Command,
-    /// A tape with a save or a crash on a control lane.
-    Control,
 }
 
 /// What a command answers. The text of a status is what the program prints on standard error after its name.
@@ -58,7 +56,7 @@ pub enum Status {
     /// Memory ran out.
     #[error("out of memory")]
     Memory,
-    /// The command, the study or the tape asks for what is not built yet.
+    /// The command is not built yet.
     #[error("not built yet")]
     NotBuilt { part: Unbuilt },
     /// A file has more bytes than it may have.

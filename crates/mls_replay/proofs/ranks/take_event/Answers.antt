@@ -1,43 +1,104 @@
 -- The event that a place names is the next of its lane.
-use Rattle.std.proofs.Common.{get_or, take, Some, subst, arith, ap, sym, ◌∙◌}
-use Rattle.mls_frame.specs.Views.{frame_of}
-use Rattle.mls_model.specs.Histories.{LaneEvent, history}
-use Rattle.mls_replay.proofs.CalmEvents.{calm_event}
-use Rattle.mls_replay.proofs.Taking.{is_left, taken_more, history_taken, same_event}
-use Rattle.mls_rank.specs.Standing.{StandsFor}
-use Rattle.mls_rank.specs.Cores.{rank_of}
+use Rattle.std.proofs.Common.{get_or, length, Bor, refl, subst, arith, ap, ◌∙◌}
+use Rattle.mls_tape.specs.declared.tape.Tape.{Tape}
+use Rattle.mls_book.specs.declared.offered.Offered.{Offered}
+use Rattle.mls_book.specs.Offers.{IfTaken, IsTaken}
+use Rattle.mls_model.specs.Numbers.{times}
+use Rattle.mls_model.specs.Schedules.{is_lane_of, event_count}
+use Rattle.mls_replay.proofs.Orders.{is_next, lane_there}
+use Rattle.mls_replay.proofs.Taking.{named, taken_runs, refused_runs, no_call_here}
 use Rattle.mls_replay.proofs.ranks.take_event.Goals as goal
 
-pub bounds-taken-lane : goal.bounds-taken-lane
-bounds-taken-lane g c = (is_left c.args.tape.now.lanes (rank_of c.args.core.now) c.args.order.now c.args.place c.args.taken.now c.requires.legal c.requires.here c.requires.counted).taken_in
+pub next-requires : goal.next-requires
+next-requires g c =
+    let n = is_next c.args.tape.now.lanes c.args.book.now.core.rank c.args.order.now c.args.place c.requires.legal c.requires.here in
+    let there = lane_there c.args.tape.now.lanes c.args.book.now.core.rank (get_or c.args.order.now c.args.place 0) n.of_rank in
+    let same = ap (λ t. length t.lanes) c.requires.tape in
+    omega (arith, there, same)
 
-pub events-events-requires : goal.events-events-requires
-events-events-requires g c = (is_left c.args.tape.now.lanes (rank_of c.args.core.now) c.args.order.now c.args.place c.args.taken.now c.requires.legal c.requires.here c.requires.counted).lane_in
+pub unreachable-requires : goal.unreachable-requires
+unreachable-requires g c =
+    let k = get_or c.args.order.now c.args.place 0 in
+    let n = is_next c.args.tape.now.lanes c.args.book.now.core.rank c.args.order.now c.args.place c.requires.legal c.requires.here in
+    let there = lane_there c.args.tape.now.lanes c.args.book.now.core.rank k n.of_rank in
+    let same = ap (λ t. length t.lanes) c.requires.tape in
+    let count = c.valid.ensures.places.each k (omega (arith, there, same)) in
+    let journal = ap (times k) c.requires.journal in
+    let lanes = ap (λ t. event_count t.lanes k) c.requires.tape in
+    let all = c.in-None.ensures.none in
+    omega (arith, n.left, count, journal, lanes, all)
 
-pub overflow_add-taken : goal.overflow_add-taken
-overflow_add-taken g c =
-    let few = (is_left c.args.tape.now.lanes (rank_of c.args.core.now) c.args.order.now c.args.place c.args.taken.now c.requires.legal c.requires.here c.requires.counted).few in
-    let e = c.events-events.ensures in
-    let t = c.events-events.type_inv in
-    omega (arith, few, e, t)
+pub offer-requires-clause-lane_in : goal.offer-requires-clause-lane_in
+offer-requires-clause-lane_in g c =
+    let k = get_or c.args.order.now c.args.place 0 in
+    let n = is_next c.args.tape.now.lanes c.args.book.now.core.rank c.args.order.now c.args.place c.requires.legal c.requires.here in
+    let there = lane_there c.args.tape.now.lanes c.args.book.now.core.rank k n.of_rank in
+    let same = ap (λ t. length t.lanes) c.requires.tape in
+    let lane = c.event-event.ensures.place.0 in
+    omega (arith, there, same, lane)
 
-pub bounds-taken-lane-2 : goal.bounds-taken-lane-2
-bounds-taken-lane-2 g c = (is_left c.args.tape.now.lanes (rank_of c.args.core.now) c.args.order.now c.args.place c.args.taken.now c.requires.legal c.requires.here c.requires.counted).taken_in
+pub offer-requires-clause-own : goal.offer-requires-clause-own
+offer-requires-clause-own g c =
+    let n = is_next c.args.tape.now.lanes c.args.book.now.core.rank c.args.order.now c.args.place c.requires.legal c.requires.here in
+    let same = ap (λ t. is_lane_of t.lanes c.args.book.now.core.rank (get_or c.args.order.now c.args.place 0)) c.requires.tape in
+    ap (is_lane_of c.args.book.now.lanes.now.lanes c.args.book.now.core.rank) c.event-event.ensures.place.0 ∙ (same ∙ n.of_rank)
 
-pub event-event-requires : goal.event-event-requires
-event-event-requires g c = (is_left c.args.tape.now.lanes (rank_of c.args.core.now) c.args.order.now c.args.place c.args.taken.now c.requires.legal c.requires.here c.requires.counted).few
+pub returns-in-Ok-Taken-clause-runs : goal.returns-in-Ok-Taken-clause-runs
+returns-in-Ok-Taken-clause-runs g c = λ entry run.
+    let lanes = c.args.tape.now.lanes in
+    let own = c.args.book.now.lanes.now.lanes in
+    let order = c.args.order.now in
+    let k = get_or order c.args.place 0 in
+    let next = is_next lanes c.args.book.now.core.rank order c.args.place c.requires.legal c.requires.here in
+    let there = lane_there lanes c.args.book.now.core.rank k next.of_rank in
+    let same = ap (λ t. length t.lanes) c.requires.tape in
+    let count = c.valid.ensures.places.each k (omega (arith, there, same)) in
+    let n = named {R = g.F.RowFold} {U = g.K.Keeper} lanes own order c.args.place k c.in-Some.number (get_or c.args.book.now.taken k 0) c.args.book.now c.event-event.result
+    (ap (λ t. t.lanes) c.requires.tape) c.requires.here c.requires.journal refl c.event-event.ensures.place.0 c.event-event.ensures.place.1 c.in-Some.ensures.some.0 count c.event-event.ensures.event c.on_tape.ensures.carried in
+    let t = subst (λ (a : Offered). IfTaken a (IsTaken g.F.RowFold g.K.Keeper c.args.book.now c.offer.new.self c.event-event.result)) c.in-Ok-Taken.field-0-is c.in-Ok-Taken.ensures.taken in
+    let lanes_same = ap (λ (l : Bor Tape). l.now.lanes) t.same.lanes ∙ ap (λ t. t.lanes) c.requires.tape in
+    taken_runs {R = g.F.RowFold} {U = g.K.Keeper} lanes c.offer.new.self.lanes.now.lanes order c.args.place c.args.book.now c.offer.new.self c.event-event.result
+    c.in-Ok-Taken.field-0-0 c.in-Ok-Taken.field-0-1 entry n t lanes_same c.on_tape-in-Ok-Taken.ensures.carried run
 
-pub returns-clause-counted : goal.returns-clause-counted
-returns-clause-counted g c = taken_more c.args.taken.now _ c.args.order.now c.args.place c.requires.here c.requires.counted
+pub returns-in-Ok-Taken-clause-quiet : goal.returns-in-Ok-Taken-clause-quiet
+returns-in-Ok-Taken-clause-quiet g c = λ none.
+    let lanes = c.args.tape.now.lanes in
+    let own = c.args.book.now.lanes.now.lanes in
+    let order = c.args.order.now in
+    let k = get_or order c.args.place 0 in
+    let next = is_next lanes c.args.book.now.core.rank order c.args.place c.requires.legal c.requires.here in
+    let there = lane_there lanes c.args.book.now.core.rank k next.of_rank in
+    let same = ap (λ t. length t.lanes) c.requires.tape in
+    let count = c.valid.ensures.places.each k (omega (arith, there, same)) in
+    let n = named {R = g.F.RowFold} {U = g.K.Keeper} lanes own order c.args.place k c.in-Some.number (get_or c.args.book.now.taken k 0) c.args.book.now c.event-event.result
+    (ap (λ t. t.lanes) c.requires.tape) c.requires.here c.requires.journal refl c.event-event.ensures.place.0 c.event-event.ensures.place.1 c.in-Some.ensures.some.0 count c.event-event.ensures.event c.on_tape.ensures.carried in
+    let t = subst (λ (a : Offered). IfTaken a (IsTaken g.F.RowFold g.K.Keeper c.args.book.now c.offer.new.self c.event-event.result)) c.in-Ok-Taken.field-0-is c.in-Ok-Taken.ensures.taken in
+    t.store.untouched (no_call_here {R = g.F.RowFold} {U = g.K.Keeper} lanes order c.args.place c.args.book.now c.event-event.result n none)
 
-pub returns-clause-stands : goal.returns-clause-stands
-returns-clause-stands g c = λ stands.
-    let e : LaneEvent = record { kind = c.kind.result; frame = frame_of c.view.result.now } in
-    let same = same_event c.kind.result c.event-event.result.kind (frame_of c.view.result.now) c.event-event.result.frame c.kind.ensures c.view.ensures in
-    let there = c.event-event.ensures.event ∙ ap Some (sym same) in
-    let left = is_left c.args.tape.now.lanes (rank_of c.args.core.now) c.args.order.now c.args.place c.args.taken.now c.requires.legal c.requires.here c.requires.counted in
-    let calm = calm_event c.args.tape.now.lanes (get_or c.args.order.now c.args.place 0) (get_or c.args.taken.now (get_or c.args.order.now c.args.place 0) 0) e c.requires.calm there in
-    let more =
-    history_taken c.args.tape.now.lanes c.args.order.now c.args.place (get_or c.args.taken.now (get_or c.args.order.now c.args.place 0) 0) e
-    c.requires.here (c.requires.counted.each (get_or c.args.order.now c.args.place 0) left.lane_in) there in
-    subst (StandsFor c.step.new.self) more (c.in_ok-step.ensures.stands (history c.args.tape.now.lanes (take c.args.place c.args.order.now)) stands calm.no_crash)
+pub returns-in-Err-clause-runs : goal.returns-in-Err-clause-runs
+returns-in-Err-clause-runs g c = λ entry run.
+    let lanes = c.args.tape.now.lanes in
+    let own = c.args.book.now.lanes.now.lanes in
+    let order = c.args.order.now in
+    let k = get_or order c.args.place 0 in
+    let next = is_next lanes c.args.book.now.core.rank order c.args.place c.requires.legal c.requires.here in
+    let there = lane_there lanes c.args.book.now.core.rank k next.of_rank in
+    let same = ap (λ t. length t.lanes) c.requires.tape in
+    let count = c.valid.ensures.places.each k (omega (arith, there, same)) in
+    let n = named {R = g.F.RowFold} {U = g.K.Keeper} lanes own order c.args.place k c.in-Some.number (get_or c.args.book.now.taken k 0) c.args.book.now c.event-event.result
+    (ap (λ t. t.lanes) c.requires.tape) c.requires.here c.requires.journal refl c.event-event.ensures.place.0 c.event-event.ensures.place.1 c.in-Some.ensures.some.0 count c.event-event.ensures.event c.on_tape.ensures.carried in
+    refused_runs {R = g.F.RowFold} {U = g.K.Keeper} lanes order c.args.place c.args.book.now c.offer.new.self c.event-event.result c.in-Err.fault entry n c.in-Err.ensures.refused run
+
+pub returns-in-Err-clause-quiet : goal.returns-in-Err-clause-quiet
+returns-in-Err-clause-quiet g c = λ none.
+    let lanes = c.args.tape.now.lanes in
+    let own = c.args.book.now.lanes.now.lanes in
+    let order = c.args.order.now in
+    let k = get_or order c.args.place 0 in
+    let next = is_next lanes c.args.book.now.core.rank order c.args.place c.requires.legal c.requires.here in
+    let there = lane_there lanes c.args.book.now.core.rank k next.of_rank in
+    let same = ap (λ t. length t.lanes) c.requires.tape in
+    let count = c.valid.ensures.places.each k (omega (arith, there, same)) in
+    let n = named {R = g.F.RowFold} {U = g.K.Keeper} lanes own order c.args.place k c.in-Some.number (get_or c.args.book.now.taken k 0) c.args.book.now c.event-event.result
+    (ap (λ t. t.lanes) c.requires.tape) c.requires.here c.requires.journal refl c.event-event.ensures.place.0 c.event-event.ensures.place.1 c.in-Some.ensures.some.0 count c.event-event.ensures.event c.on_tape.ensures.carried in
+    c.in-Err.ensures.refused.untouched (no_call_here {R = g.F.RowFold} {U = g.K.Keeper} lanes order c.args.place c.args.book.now c.event-event.result n none)
