@@ -14,7 +14,6 @@ refused_first sound refusal.Memory right next is = tt
 refused_first sound (refusal.Study fault) right next is = ap (λ o. o >>= next) is
 refused_first sound (refusal.Tape at why) right next is = ap (λ o. o >>= next) is
 refused_first sound (refusal.Schedule line why) right next is = ap (λ o. o >>= next) is
-refused_first sound (refusal.NotBuilt part) right next is = ap (λ o. o >>= next) is
 refused_first sound (refusal.TooLong file) right next is = ap (λ o. o >>= next) is
 refused_first sound (refusal.Events line) right next is = ap (λ o. o >>= next) is
 
@@ -25,7 +24,6 @@ refused_less more less refusal.Memory right stays is = tt
 refused_less more less (refusal.Study fault) right stays is = is
 refused_less more less (refusal.Tape at why) right stays is = is
 refused_less more less (refusal.Schedule line why) right stays is = is
-refused_less more less (refusal.NotBuilt part) right stays is = is
 refused_less more less (refusal.TooLong file) right stays is = is
 refused_less more less (refusal.Events line) right stays is = is
 
@@ -46,7 +44,6 @@ content_counts refusal.Memory before now is same = same
 content_counts (refusal.Study fault) before now is same = same
 content_counts (refusal.Tape at why) before now is same = same
 content_counts (refusal.Schedule line why) before now is same = same
-content_counts (refusal.NotBuilt part) before now is same = same
 content_counts (refusal.TooLong file) before now is same = same
 content_counts (refusal.Events line) before now is same = same
 

@@ -1,20 +1,19 @@
 -- What is right of a fold.
-use Rattle.std.specs.Prelude.{ℕ, cond, List, Option, Some, None, Result, Ok, Err}
+use Rattle.std.specs.Prelude.{ℕ, List, Option, Some, None, Result, Ok, Err}
 use Rattle.mls_base.specs.Told.{Names}
 use Rattle.mls_model.specs.Studies.{Study}
 use Rattle.mls_model.specs.Lanes.{Lane, TapeRefusal, tape_of}
 use Rattle.mls_model.specs.Schedules.{plain}
-use Rattle.mls_model.specs.ResultText.{result_text}
+use Rattle.mls_model.specs.Histories.{LaneEvent}
+use Rattle.mls_model.specs.ResultText.{histories_of, result_text}
 use Rattle.mls_tape.specs.ScheduleReading.{LineRefusal, longest_schedule, schedule_of}
 use Rattle.mls_tape.specs.Tapes.{longest_tape}
-use Rattle.mls_replay.specs.Calm.{is_calm}
 use Rattle.mls_result.specs.declared.fault.FoldFault.{FoldFault}
-use Rattle.mls_result.specs.declared.fault.FoldFault.TheVariants.{WriteFault, Memory}
+use Rattle.mls_result.specs.declared.fault.FoldFault.TheVariants as fold
 use Rattle.mls_result.specs.declared.status.Status.{Status}
 use Rattle.mls_result.specs.declared.status.Status.TheVariants as status
 use Rattle.mls_result.specs.declared.status.FileRole.TheVariants as role
-use Rattle.mls_result.specs.declared.status.Unbuilt.TheVariants as part
-use Rattle.mls_cli.specs.Inputs.{◌>>=◌, limited, not_built, right_study}
+use Rattle.mls_cli.specs.Inputs.{◌>>=◌, limited, right_study}
 
 abbrev pub tape_answer : Result (List Lane) TapeRefusal → Result (List Lane) Status
 tape_answer (Ok lanes) = Ok lanes
@@ -24,13 +23,9 @@ abbrev pub schedule_answer : Result (List (List ℕ)) LineRefusal → Result (Li
 schedule_answer (Ok orders) = Ok orders
 schedule_answer (Err refusal) = Err (status.Schedule refusal.line refusal.why)
 
--- a tape without saves and crashes on control lanes
-abbrev pub built_tape : List Lane → Result (List Lane) Status
-built_tape lanes = cond (is_calm lanes) (Ok lanes) (not_built part.Control)
-
--- the lanes that bytes spell under a study, where all of them are built
+-- the lanes that bytes spell under a study
 abbrev pub content_lanes : Study → List ℕ → Result (List Lane) Status
-content_lanes study bytes = tape_answer (tape_of study.sizes.ranks study.sizes.signed bytes) >>= built_tape
+content_lanes study bytes = tape_answer (tape_of study.sizes.ranks study.sizes.signed bytes)
 
 -- the lists of the legal schedule of such ranks and lanes that bytes spell
 abbrev pub content_schedule : ℕ → List Lane → List ℕ → Result (List (List ℕ)) Status
@@ -45,16 +40,44 @@ abbrev pub right_orders : (ranks : ℕ) → List Lane → (schedule : Option (Li
 right_orders ranks lanes None held = Ok (plain ranks lanes)
 right_orders ranks lanes (Some schedule_name) held = limited role.Schedule longest_schedule (held schedule_name) >>= content_schedule ranks lanes
 
--- the text of a fold
-unfoldable pub right_fold : (study tape : List ℕ) (schedule : Option (List ℕ)) → Names → Result (List ℕ) Status
-right_fold study_name tape_name schedule_name held = do
+-- What a fold is carried out over.
+pub record Folded : Type 0 where
+  pub study : Study
+  pub lanes : List Lane
+  pub orders : List (List ℕ)
+
+-- the history of each rank in it, and its text
+abbrev pub folded_histories : Folded → ℕ → List LaneEvent
+folded_histories f = histories_of f.lanes f.orders
+
+abbrev pub folded_text : Folded → List ℕ
+folded_text f = result_text f.study f.lanes f.orders
+
+-- what a fold of these names is carried out over
+unfoldable pub right_inputs : (study tape : List ℕ) (schedule : Option (List ℕ)) → Names → Result Folded Status
+right_inputs study_name tape_name schedule_name held = do
   study ← right_study study_name held
   lanes ← right_lanes study tape_name held
   orders ← right_orders study.sizes.ranks lanes schedule_name held
-  Ok (result_text study lanes orders)
+  Ok (record { study = study; lanes = lanes; orders = orders })
+
+-- the text that is asked for over such inputs, and the fold, where there is one
+abbrev pub asked_text : Result Folded Status → Result (List ℕ) Status
+asked_text (Ok f) = Ok (folded_text f)
+asked_text (Err refusal) = Err refusal
+
+abbrev pub asked_fold : Result Folded Status → Option Folded
+asked_fold (Ok f) = Some f
+asked_fold (Err refusal) = None
+
+-- the text of a fold
+abbrev pub right_fold : (study tape : List ℕ) (schedule : Option (List ℕ)) → Names → Result (List ℕ) Status
+right_fold study_name tape_name schedule_name held = asked_text (right_inputs study_name tape_name schedule_name held)
 
 -- what is answered after a fold
 abbrev pub fold_status : {A : Type 0} → Result A FoldFault → Status
 fold_status (Ok done) = status.Done
-fold_status (Err WriteFault) = status.WriteFault
-fold_status (Err Memory) = status.Memory
+fold_status (Err (fold.KeeperFault rank)) = status.KeeperFault rank
+fold_status (Err (fold.CheckpointBad rank at why)) = status.CheckpointBad rank at why
+fold_status (Err fold.WriteFault) = status.WriteFault
+fold_status (Err fold.Memory) = status.Memory

@@ -1,5 +1,6 @@
 -- What is right: the text that words ask for, or their refusal, from the files that are held.
 use Rattle.std.specs.Prelude.{◌≡◌, ℕ, List, Option, Some, None, Result, Ok, Err}
+use Rattle.std.specs.Option.{option_and_then}
 use Rattle.mls_base.specs.Told.{Names}
 use Rattle.mls_result.specs.declared.status.Status.{Status}
 use Rattle.mls_result.specs.declared.status.Status.TheVariants as status
@@ -8,7 +9,7 @@ use Rattle.mls_cli.specs.declared.words.Words.{Words}
 use Rattle.mls_cli.specs.declared.words.Words.TheVariants as words
 use Rattle.mls_cli.specs.Words.{words_of}
 use Rattle.mls_cli.specs.Inputs.{◌>>=◌, not_built}
-use Rattle.mls_cli.specs.Fold.{right_fold}
+use Rattle.mls_cli.specs.Fold.{Folded, asked_fold, right_inputs, right_fold}
 use Rattle.mls_cli.specs.Watch.{right_watch}
 use Rattle.mls_cli.specs.Design.{right_design}
 use Rattle.mls_cli.specs.Answers.{Exactly, IsRefusal}
@@ -23,6 +24,11 @@ right_command (words.Bins study tape schedule) held = not_built part.Command
 right_command (words.Export study prefix) held = not_built part.Command
 right_command (words.Resume study old prefix tape schedule) held = not_built part.Command
 
+-- what a command folds, where it is a fold and its inputs are right
+abbrev pub command_fold : Words → Names → Option Folded
+command_fold (words.Fold study tape schedule) held = asked_fold (right_inputs study tape schedule held)
+command_fold command held = None
+
 abbrev pub command_or_usage : Option Words → Result Words Status
 command_or_usage None = Err status.Usage
 command_or_usage (Some command) = Ok command
@@ -33,6 +39,10 @@ unfoldable pub ideal : Names → List (List ℕ) → Result (List ℕ) Status
 ideal held words = do
   command ← command_or_usage (words_of words)
   right_command command held
+
+-- what the words fold, where they are a fold and its inputs are right
+unfoldable pub fold_of : Names → List (List ℕ) → Option Folded
+fold_of held words = option_and_then (λ command. command_fold command held) (words_of words)
 
 -- Where the files tell what they hold, each refusal is answered exactly where it is the one that these words ask for.
 abbrev pub RefusesExactly : Option Names → (words : List (List ℕ)) → (answer : Status) → Type 0

@@ -15,7 +15,6 @@ status_of refusal.Memory = status.Memory
 status_of (refusal.Study fault) = status.Study fault
 status_of (refusal.Tape at why) = status.Tape at why
 status_of (refusal.Schedule line why) = status.Schedule line why
-status_of (refusal.NotBuilt part) = status.NotBuilt part
 status_of (refusal.TooLong file) = status.TooLong file
 status_of (refusal.Events line) = status.Events line
 

@@ -1,10 +1,13 @@
 //! The top call.
 
-ghost use Rattle.std.specs.Prelude.{◌≡◌, ◌↔◌, map, string_bytes, vec_len, None, Some, IsTrue};
+ghost use Rattle.std.specs.Prelude.{◌≡◌, ◌↔◌, ℕ, map, string_bytes, vec_len, None, Some, IsTrue};
 ghost use Rattle.mls_base.specs.Told.{Names, Rose};
+ghost use Rattle.mls_text.specs.Writing.{sink_seen};
+ghost use Rattle.mls_book.specs.Keepers.{keepers_seen};
 ghost use Rattle.mls_cli.specs.Words.{words_of};
-ghost use Rattle.mls_cli.specs.Ideal.{RefusesExactly, ideal, right_command};
-ghost use Rattle.mls_cli.specs.Answers.{Answers, Carries, DidNotRise, IsAsked, IsDoneOrMemory, IsQuiet, IsRight, sink};
+ghost use Rattle.mls_cli.specs.Ideal.{RefusesExactly, ideal, fold_of, right_command, command_fold};
+ghost use Rattle.mls_cli.specs.Answers.{Answers, Carries, DidNotRise, IsAsked, IsDoneOrMemory, IsQuiet, IsRight, IsUncalled};
+ghost use Rattle.mls_cli.specs.Answers.{AllTell, AreSound, IsOfCores, IsSureFold, KeepersAnswer, NoneRose, RoseAt, TakesText};
 ghost use Rattle.mls_cli.specs.Refusals.{seen};
 
 use crate::design::run_design;
@@ -12,6 +15,8 @@ use crate::fold::run_fold;
 use crate::watch::run_watch;
 use crate::words::{Words, WordsFault, read_words};
 use mls_base::outside::{Files, Keeper, Sink};
+use mls_field::field::Field;
+use mls_field::fold::RowFold;
 use mls_result::{Status, Unbuilt};
 use std::alloc::Global;
 
@@ -24,12 +29,14 @@ fn carry_out<F: Files, O: Sink, K: Keeper + Drop>(
     keepers: Vec<K>,
 ) -> (Status, Vec<K>)
     requires { vec_len keepers ≡ 64 }
-    ensures carried { Carries (right_command command)
+    ensures carried { Carries (right_command command) (command_fold command)
         (seen F.held F.sound F.load_faults F.save_faults files.old)
         (seen F.held F.sound F.load_faults F.save_faults files.new)
-        (sink O.told O.faults out.old) (sink O.told O.faults out.new) result.0 }
+        (sink_seen O.told O.faults O.sure out.old) (sink_seen O.told O.faults O.sure out.new)
+        (keepers_seen K.Keeper keepers.items) (keepers_seen K.Keeper result.1.items) result.0 }
     ensures no_usage { result.0 ≡ Status.Usage → ⊥ }
-    ensures keepers { result.1 ≡ keepers }
+    ensures places { vec_len result.1 ≡ 64 }
+    ensures uncalled { IsUncalled result.0 → result.1 ≡ keepers }
 {
     match command {
         Words::Fold {
@@ -70,11 +77,14 @@ fn run<F: Files, O: Sink, K: Keeper + Drop>(
 ) -> (Status, Vec<K>)
     requires { vec_len keepers ≡ 64 }
     ensures carried { Carries (λ held. ideal held (map string_bytes words.now))
+        (λ held. fold_of held (map string_bytes words.now))
         (seen F.held F.sound F.load_faults F.save_faults files.old)
         (seen F.held F.sound F.load_faults F.save_faults files.new)
-        (sink O.told O.faults out.old) (sink O.told O.faults out.new) result.0 }
+        (sink_seen O.told O.faults O.sure out.old) (sink_seen O.told O.faults O.sure out.new)
+        (keepers_seen K.Keeper keepers.items) (keepers_seen K.Keeper result.1.items) result.0 }
     ensures usage { (result.0 ≡ Status.Usage) ↔ (words_of (map string_bytes words.now) ≡ None) }
-    ensures keepers { result.1 ≡ keepers }
+    ensures places { vec_len result.1 ≡ 64 }
+    ensures uncalled { IsUncalled result.0 → result.1 ≡ keepers }
 {
     match read_words(alloc, words) {
         Ok(command) => return carry_out(alloc, command, files, out, keepers),
@@ -87,8 +97,8 @@ fn run<F: Files, O: Sink, K: Keeper + Drop>(
 /// name) over these files, this sink and these 64 keepers, and says how it went.
 ///
 /// Where the files tell what they hold, the sink has gained exactly the text that the words and the named files' bytes
-/// ask for where the answer is `Done`, a front of it after `WriteFault`, and nothing after every other answer. The
-/// keepers come back as they were.
+/// ask for where the answer is `Done`, a front of it after `WriteFault`, and nothing after every other answer. A fold
+/// calls the keeper of a rank at the saves and crashes of its history; each keeper comes back in its place.
 pub fn melissa<F: Files, O: Sink, K: Keeper + Drop>(
     alloc: Global,
     words: &[String],
@@ -98,10 +108,25 @@ pub fn melissa<F: Files, O: Sink, K: Keeper + Drop>(
 ) -> (Status, Vec<K>)
     requires { vec_len keepers ≡ 64 }
 
-    // The text that is right, or the refusal that is.
+    // The text that is right, or the refusal that is. Of a fold the text is right where each keeper tells what it holds,
+    // or no crash of its rank's history stands behind a save.
     ensures right { (held : Names) → F.held files.old ≡ Some held →
-        Answers (F.sound files.old) (ideal held (map string_bytes words.now))
-        (O.told out.old) (O.told out.new) result.0 }
+        Answers (F.sound files.old)
+        (IsSureFold (fold_of held (map string_bytes words.now)) (keepers_seen K.Keeper keepers.items))
+        (ideal held (map string_bytes words.now))
+        (sink_seen O.told O.faults O.sure out.old) (sink_seen O.told O.faults O.sure out.new) result.0 }
+
+    // Whatever the keepers tell, the text of a fold is that of some cores of the study and of the tape's lanes.
+    ensures form { (held : Names) → F.held files.old ≡ Some held →
+        IsOfCores ⟦<Field as RowFold>⟧ (fold_of held (map string_bytes words.now))
+        (sink_seen O.told O.faults O.sure out.old) (sink_seen O.told O.faults O.sure out.new) result.0 }
+
+    // Each keeper that tells holds the last save of its rank's history, or what it held; it was read at each crash
+    // behind a save. After a rank's fault the keepers below ran over their histories, and those above are as before.
+    ensures keepers { (held : Names) → F.held files.old ≡ Some held →
+        KeepersAnswer ⟦<Field as RowFold>⟧.part_of ⟦<Field as RowFold>⟧.part_at
+        (fold_of held (map string_bytes words.now))
+        (keepers_seen K.Keeper keepers.items) (keepers_seen K.Keeper result.1.items) result.0 }
 
     // Where the words are no command, told files or not.
     ensures usage { (result.0 ≡ Status.Usage) ↔ (words_of (map string_bytes words.now) ≡ None) }
@@ -109,27 +134,34 @@ pub fn melissa<F: Files, O: Sink, K: Keeper + Drop>(
     // Each refusal comes exactly where it is the first, but that memory may be wanting or a read may fail before.
     ensures refused { RefusesExactly (F.held files.old) (map string_bytes words.now) result.0 }
 
-    // Over sound files that tell, where no write failed, the answer is the one that the words and the files ask for, or
-    // memory is wanting: a read fails exactly where the first refusal is that a name isn't held.
+    // Over a sound outside that tells, whose sink takes the text for sure, the answer is the one that the words and the
+    // files ask for, or memory is wanting: a read fails exactly where the first refusal is that a name isn't held.
     ensures sound { (held : Names) → F.held files.old ≡ Some held → IsTrue (F.sound files.old) →
-        DidNotRise (O.faults out.old) (O.faults out.new) →
+        AllTell (keepers_seen K.Keeper keepers.items) → AreSound (keepers_seen K.Keeper keepers.items) →
+        TakesText (ideal held (map string_bytes words.now)) (sink_seen O.told O.faults O.sure out.old) →
         IsAsked (ideal held (map string_bytes words.now)) result.0 }
 
     // The causes of faults of the outside.
     ensures read_fault { result.0 ≡ Status.ReadFault → Rose (F.load_faults files.old) (F.load_faults files.new) }
     ensures write_fault { result.0 ≡ Status.WriteFault → Rose (O.faults out.old) (O.faults out.new) }
+    ensures keeper_fault { (rank : ℕ) → result.0 ≡ Status.KeeperFault rank →
+        RoseAt rank (keepers_seen K.Keeper keepers.items) (keepers_seen K.Keeper result.1.items) }
 
     // After every answer but `Done` and `WriteFault` a told sink is as it was, told files or not.
     ensures quiet { IsQuiet result.0 → O.told out.new ≡ O.told out.old }
 
-    // Where there is a text and no count rose, it is written or memory is wanting.
+    // Where there is a text, the keepers tell and no count rose, it is written or memory is wanting.
     ensures complete { (held : Names) → F.held files.old ≡ Some held →
         IsRight (ideal held (map string_bytes words.now)) →
+        AllTell (keepers_seen K.Keeper keepers.items) →
         DidNotRise (F.load_faults files.old) (F.load_faults files.new) →
-        DidNotRise (O.faults out.old) (O.faults out.new) → IsDoneOrMemory result.0 }
+        DidNotRise (O.faults out.old) (O.faults out.new) →
+        NoneRose (keepers_seen K.Keeper keepers.items) (keepers_seen K.Keeper result.1.items) →
+        IsDoneOrMemory result.0 }
 
-    // Each keeper comes back as it was, and the count of failed saves stands.
-    ensures keepers { result.1 ≡ keepers }
+    // There are as many keepers as before; after a refusal each is as it was. The count of failed saves stands.
+    ensures places { vec_len result.1 ≡ 64 }
+    ensures uncalled { IsUncalled result.0 → result.1 ≡ keepers }
     ensures saves { F.save_faults files.new ≡ F.save_faults files.old }
 {
     run(alloc, words, files, out, keepers)

@@ -1,10 +1,12 @@
 //! The command `design`.
 
-ghost use Rattle.std.specs.Prelude.{◌≡◌};
+ghost use Rattle.std.specs.Prelude.{◌≡◌, List, None};
 ghost use Rattle.mls_model.specs.Designs.{design_text};
 ghost use Rattle.mls_launch.specs.Writing.{WritesOut};
 ghost use Rattle.mls_cli.specs.Design.{right_design};
-ghost use Rattle.mls_cli.specs.Answers.{Carries, sink};
+ghost use Rattle.mls_text.specs.Writing.{sink_seen};
+ghost use Rattle.mls_book.specs.Keepers.{KeeperState};
+ghost use Rattle.mls_cli.specs.Answers.{Carries};
 ghost use Rattle.mls_cli.specs.Refusals.{seen};
 
 use crate::loading::load_study;
@@ -19,7 +21,7 @@ use std::alloc::Global;
 /// Draws the design and writes its text.
 fn write_drawn<O: Sink>(alloc: Global, study: &Study, out: &mut O) -> Result<(), OutFault>
     ensures { WritesOut result (design_text study.now)
-        (O.told out.old) (O.told out.new) (O.faults out.old) (O.faults out.new) }
+        (sink_seen O.told O.faults O.sure out.old) (sink_seen O.told O.faults O.sure out.new) }
 {
     let design = Design::new(alloc, study)?;
     match write_design(study, &design, out) {
@@ -35,10 +37,10 @@ pub(crate) fn run_design<F: Files, O: Sink>(
     files: &mut F,
     out: &mut O,
 ) -> Status
-    ensures carried { Carries (right_design study_name.now)
+    ensures carried { (keepers : List KeeperState) → Carries (right_design study_name.now) (λ held. None)
         (seen F.held F.sound F.load_faults F.save_faults files.old)
         (seen F.held F.sound F.load_faults F.save_faults files.new)
-        (sink O.told O.faults out.old) (sink O.told O.faults out.new) result }
+        (sink_seen O.told O.faults O.sure out.old) (sink_seen O.told O.faults O.sure out.new) keepers keepers result }
     ensures no_usage { result ≡ Status.Usage → ⊥ }
 {
     match load_study(alloc, files, study_name) {

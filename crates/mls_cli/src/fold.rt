@@ -1,8 +1,10 @@
 //! The command `fold`.
 
 ghost use Rattle.std.specs.Prelude.{◌≡◌, vec_len};
-ghost use Rattle.mls_cli.specs.Fold.{right_fold, fold_status};
-ghost use Rattle.mls_cli.specs.Answers.{Carries, sink};
+ghost use Rattle.mls_text.specs.Writing.{sink_seen};
+ghost use Rattle.mls_book.specs.Keepers.{keepers_seen};
+ghost use Rattle.mls_cli.specs.Fold.{asked_fold, right_inputs, right_fold, fold_status};
+ghost use Rattle.mls_cli.specs.Answers.{Carries, IsUncalled};
 ghost use Rattle.mls_cli.specs.Refusals.{seen};
 
 use crate::fold_inputs::load_inputs;
@@ -18,6 +20,8 @@ fn fold_status(answer: Result<(), FoldFault>) -> Status
 {
     match answer {
         Ok(()) => Status::Done,
+        Err(FoldFault::KeeperFault { rank }) => Status::KeeperFault { rank },
+        Err(FoldFault::CheckpointBad { rank, at, why }) => Status::CheckpointBad { rank, at, why },
         Err(FoldFault::WriteFault) => Status::WriteFault,
         Err(FoldFault::Memory) => Status::Memory,
     }
@@ -35,11 +39,14 @@ pub(crate) fn run_fold<F: Files, O: Sink, K: Keeper + Drop>(
 ) -> (Status, Vec<K>)
     requires { vec_len keepers ≡ 64 }
     ensures carried { Carries (right_fold study_name.now tape_name.now schedule_name.now)
+        (λ held. asked_fold (right_inputs study_name.now tape_name.now schedule_name.now held))
         (seen F.held F.sound F.load_faults F.save_faults files.old)
         (seen F.held F.sound F.load_faults F.save_faults files.new)
-        (sink O.told O.faults out.old) (sink O.told O.faults out.new) result.0 }
+        (sink_seen O.told O.faults O.sure out.old) (sink_seen O.told O.faults O.sure out.new)
+        (keepers_seen K.Keeper keepers.items) (keepers_seen K.Keeper result.1.items) result.0 }
     ensures no_usage { result.0 ≡ Status.Usage → ⊥ }
-    ensures keepers { result.1 ≡ keepers }
+    ensures places { vec_len result.1 ≡ 64 }
+    ensures uncalled { IsUncalled result.0 → result.1 ≡ keepers }
 {
     let inputs = match load_inputs(alloc, files, study_name, tape_name, schedule_name) {
         Ok(inputs) => inputs,

@@ -2,18 +2,15 @@
 
 ghost use Rattle.std.specs.Prelude.{◌≡◌, ◌≤◌, length, true, Ok, IfOk, IfErr, vec_len};
 ghost use Rattle.mls_model.specs.Schedules.{plain, is_legal};
-ghost use Rattle.mls_model.specs.ResultText.{result_text};
-ghost use Rattle.mls_replay.specs.Calm.{is_calm};
 ghost use Rattle.mls_tape.specs.ScheduleReading.{longest_schedule};
 ghost use Rattle.mls_tape.specs.Tapes.{longest_tape};
-ghost use Rattle.mls_cli.specs.Fold.{built_tape, content_lanes, content_schedule, right_lanes, right_orders, right_fold};
+ghost use Rattle.mls_cli.specs.Fold.{Folded, content_lanes, content_schedule, right_lanes, right_orders, right_inputs};
 ghost use Rattle.mls_cli.specs.Refusals.{Agrees, IsOfContent, Loads, seen};
 
 use crate::loading::{load, load_study};
 use crate::refusal::Refusal;
 use mls_base::outside::Files;
-use mls_replay::is_calm;
-use mls_result::{FileRole, Unbuilt};
+use mls_result::FileRole;
 use mls_study::{Name, Study};
 use mls_tape::schedule::LONGEST_SCHEDULE;
 use mls_tape::tape::LONGEST_TAPE;
@@ -28,32 +25,16 @@ pub(crate) struct FoldInputs {
     pub(crate) schedule: Schedule,
 }
 
-/// The tape, if all that it asks for is built.
-fn if_calm(tape: Tape) -> Result<Tape, Refusal>
-    ensures right { Agrees true (λ t. t.lanes) result (built_tape tape.lanes) }
-    ensures same { IfOk result (λ t. t ≡ tape) }
-    ensures calm { IfOk result (λ t. is_calm t.lanes ≡ true) }
-    ensures content { IfErr result IsOfContent }
-{
-    if is_calm(&tape) {
-        return Ok(tape);
-    }
-    Err(Refusal::NotBuilt {
-        part: Unbuilt::Control,
-    })
-}
-
 /// The tape in these bytes.
 fn tape_in(alloc: Global, study: &Study, bytes: Vec<u8>) -> Result<Tape, Refusal>
     requires { vec_len bytes ≤ longest_tape }
     ensures right { Agrees true (λ t. t.lanes) result (content_lanes study.now bytes.items) }
     ensures ranks { IfOk result (λ t. t.ranks ≡ study.now.sizes.ranks) }
-    ensures calm { IfOk result (λ t. is_calm t.lanes ≡ true) }
     ensures content { IfErr result IsOfContent }
 {
     let shape = study.shape();
     match Tape::read(alloc, shape.ranks(), shape.signed(), bytes) {
-        Ok(tape) => return if_calm(tape),
+        Ok(tape) => return Ok(tape),
         Err(TapeFault::Bad { at, why }) => return Err(Refusal::Tape { at, why }),
         Err(TapeFault::Memory) => return Err(Refusal::Memory),
     }
@@ -70,7 +51,6 @@ fn load_tape<F: Files>(
         (seen F.held F.sound F.load_faults F.save_faults files.old)
         (seen F.held F.sound F.load_faults F.save_faults files.new) result }
     ensures ranks { IfOk result (λ t. t.ranks ≡ study.now.sizes.ranks) }
-    ensures calm { IfOk result (λ t. is_calm t.lanes ≡ true) }
 {
     let bytes = load(alloc, files, name, LONGEST_TAPE, FileRole::Tape)?;
     tape_in(alloc, study, bytes)
@@ -144,11 +124,11 @@ pub(crate) fn load_inputs<F: Files>(
     tape_name: &str,
     schedule_name: &Option<Name>,
 ) -> Result<FoldInputs, Refusal>
-    ensures loads { Loads (λ (inputs : FoldInputs). result_text inputs.study inputs.tape.lanes inputs.schedule)
-        (right_fold study_name.now tape_name.now schedule_name.now)
+    ensures loads { Loads (λ (inputs : FoldInputs).
+        let f : Folded = record { study = inputs.study; lanes = inputs.tape.lanes; orders = inputs.schedule } in f)
+        (right_inputs study_name.now tape_name.now schedule_name.now)
         (seen F.held F.sound F.load_faults F.save_faults files.old)
         (seen F.held F.sound F.load_faults F.save_faults files.new) result }
-    ensures calm { IfOk result (λ inputs. is_calm inputs.tape.lanes ≡ true) }
     ensures legal { IfOk result
         (λ inputs. is_legal inputs.study.sizes.ranks inputs.tape.lanes inputs.schedule ≡ true) }
 {

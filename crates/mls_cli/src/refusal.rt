@@ -4,7 +4,7 @@ ghost use Rattle.std.specs.Prelude.{◌≡◌};
 ghost use Rattle.mls_cli.specs.Refusals.{study_refusal};
 
 use mls_launch::EventFault;
-use mls_result::{FileRole, Status, Unbuilt};
+use mls_result::{FileRole, Status};
 use mls_study::StudyFault;
 use mls_tape::{SchedFault, SchedWhy, TapeFault, TapeWhy};
 
@@ -23,8 +23,6 @@ pub(crate) enum Refusal {
     Schedule { line: u32, why: SchedWhy },
     /// The events file is refused at a line.
     Events { line: u32 },
-    /// The study or the tape asks for what is not built yet.
-    NotBuilt { part: Unbuilt },
     /// A file has more bytes than it may have.
     TooLong { file: FileRole },
 }
@@ -53,7 +51,6 @@ impl From<Refusal> for Status {
             Refusal::Tape { at, why } => Status::Tape { at, why },
             Refusal::Schedule { line, why } => Status::Schedule { line, why },
             Refusal::Events { line } => Status::Events { line },
-            Refusal::NotBuilt { part } => Status::NotBuilt { part },
             Refusal::TooLong { file } => Status::TooLong { file },
         }
     }

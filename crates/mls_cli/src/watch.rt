@@ -1,10 +1,12 @@
 //! The command `watch`.
 
-ghost use Rattle.std.specs.Prelude.{◌≡◌, ◌≤◌, length, true, IfErr};
+ghost use Rattle.std.specs.Prelude.{◌≡◌, ◌≤◌, List, length, true, None, IfErr};
 ghost use Rattle.mls_model.specs.WatchText.{watch_text};
 ghost use Rattle.mls_launch.specs.Writing.{WritesOut};
 ghost use Rattle.mls_cli.specs.Watch.{events_limit, content_events, right_events, right_watch};
-ghost use Rattle.mls_cli.specs.Answers.{Carries, sink};
+ghost use Rattle.mls_text.specs.Writing.{sink_seen};
+ghost use Rattle.mls_book.specs.Keepers.{KeeperState};
+ghost use Rattle.mls_cli.specs.Answers.{Carries};
 ghost use Rattle.mls_cli.specs.Refusals.{Agrees, IsOfContent, Loads, seen};
 
 use crate::loading::{load, load_study};
@@ -69,7 +71,7 @@ fn load_inputs<F: Files>(
 /// Writes the watch text.
 fn write_inputs<O: Sink>(alloc: Global, inputs: &WatchInputs, out: &mut O) -> Result<(), OutFault>
     ensures { WritesOut result (watch_text inputs.now.study.sizes inputs.now.events.items)
-        (O.told out.old) (O.told out.new) (O.faults out.old) (O.faults out.new) }
+        (sink_seen O.told O.faults O.sure out.old) (sink_seen O.told O.faults O.sure out.new) }
 {
     let shape = inputs.study.shape();
     write_watch(alloc, &shape, inputs.events.as_slice(), out)
@@ -83,10 +85,10 @@ pub(crate) fn run_watch<F: Files, O: Sink>(
     files: &mut F,
     out: &mut O,
 ) -> Status
-    ensures carried { Carries (right_watch study_name.now events_name.now)
+    ensures carried { (keepers : List KeeperState) → Carries (right_watch study_name.now events_name.now) (λ held. None)
         (seen F.held F.sound F.load_faults F.save_faults files.old)
         (seen F.held F.sound F.load_faults F.save_faults files.new)
-        (sink O.told O.faults out.old) (sink O.told O.faults out.new) result }
+        (sink_seen O.told O.faults O.sure out.old) (sink_seen O.told O.faults O.sure out.new) keepers keepers result }
     ensures no_usage { result ≡ Status.Usage → ⊥ }
 {
     match load_inputs(alloc, files, study_name, events_name) {
