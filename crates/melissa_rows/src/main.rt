@@ -1,6 +1,7 @@
 //! Carries out the command of each line of the input, over the files that lie where it runs, and then the folds of the
-//! largest and the least samples. It prints after each line how it went and what was written. The kept run has the rows of
-//! folds, schedules, watches, designs, words and refusals.
+//! largest and the least samples. It prints after each line how it went, what was written, and how many bytes the first
+//! rank's keeper then holds, where it holds any. A line may say which call of that keeper is to fail. The kept run has the
+//! rows of folds, saves and crashes, schedules, watches, designs, words and refusals.
 #![tactic(auto)]
 
 ghost use Rattle.std.specs.Prelude.{◌≡◌, vec_len, IfOk};
@@ -18,15 +19,31 @@ use std::io;
 /// How many bytes a row may write.
 const ROOM: u64 = 65_536;
 
-/// A keeper in memory for each rank there may be, none of which holds anything.
-fn no_checkpoints(alloc: Global) -> Result<Vec<MemKeeper>, AllocError>
+/// A keeper in memory for each rank there may be, none of which holds anything. A call of the first may be one that fails.
+fn no_checkpoints(alloc: Global, failing: Option<u64>) -> Result<Vec<MemKeeper>, AllocError>
     ensures { IfOk result (λ keepers. vec_len keepers ≡ 64) }
 {
+    let mut fails = Vec::new(alloc);
+    if let Some(call) = failing {
+        fails.push(call)?;
+    }
     let mut keepers = Vec::new(alloc);
-    for _ in 0..64_u32 {
+    keepers.push(MemKeeper::new(alloc, fails))?;
+    for _ in 1..64_u32 {
         keepers.push(MemKeeper::new(alloc, Vec::new(alloc)))?;
     }
     Ok(keepers)
+}
+
+/// The call of keeper 0 that is to fail, where the line names one, and the line's command.
+fn parts_of(line: &str) -> (Option<u64>, &str) {
+    match line.split_once(" of keeper 0 fails: ") {
+        Some((call, command)) => match call.strip_prefix("call ") {
+            Some(number) => (number.parse().ok(), command),
+            None => (None, command),
+        },
+        None => (None, line),
+    }
 }
 
 /// The words of a line, one space between each two. An empty line has none.
@@ -48,17 +65,22 @@ fn print_row<F: Files>(
     line: &str,
     files: &mut F,
 ) -> io::Result<()> {
-    let words = words_of(alloc, line)?;
-    let keepers = no_checkpoints(alloc)?;
+    let (failing, command) = parts_of(line);
+    let words = words_of(alloc, command)?;
+    let keepers = no_checkpoints(alloc, failing)?;
     let Ok(mut sink) = MemSink::new(alloc, ROOM, Vec::new(alloc)) else {
         return println!(rt; "out of memory");
     };
-    let (status, _) = melissa(alloc, words.as_slice(), files, &mut sink, keepers);
+    let (status, keepers) = melissa(alloc, words.as_slice(), files, &mut sink, keepers);
     println!(rt; "> {line}")?;
     println!(rt; "{}: {status}", status.number())?;
     match std::str::from_utf8(sink.bytes()) {
-        Ok(text) => print!(rt; "{text}"),
-        Err(_) => println!(rt; "no text"),
+        Ok(text) => print!(rt; "{text}")?,
+        Err(_) => println!(rt; "no text")?,
+    }
+    match keepers[0].held() {
+        Some(bytes) => println!(rt; "keeper 0 holds {} bytes", bytes.len()),
+        None => Ok(()),
     }
 }
 
