@@ -7,7 +7,7 @@ use Rattle.mls_model.specs.Standing.{Table}
 use Rattle.std.proofs.lemmas.List.{map-append}
 use Rattle.mls_model.specs.Numbers.{below}
 use Rattle.mls_model.specs.Studies.{planes}
-use Rattle.mls_field.proofs.Texts.{take_more}
+use Rattle.mls_hist.proofs.NumbersPut.{take_more}
 use Rattle.mls_field.proofs.Rows.{same_entries, entry_of, length-shifted_outputs}
 use Rattle.mls_hist.specs.declared.hist.Hist.{Hist}
 use Rattle.mls_hist.specs.Histograms.{cell_start}

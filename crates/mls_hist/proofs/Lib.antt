@@ -1,3 +1,4 @@
+pub mod NumbersPut
 pub mod Sums
 pub mod QuartileBins
 pub mod PartLaws
