@@ -1,14 +1,18 @@
 -- An answer that agrees with what is right is exact and complete.
-use Rattle.std.proofs.Common.{◌≡◌, ℕ, Bool, IsTrue, List, Option, Some, None, Result, Ok, Err, refl, sym, ap, subst, ◌∙◌, inl, inr, ◌⊎◌, arith}
+use Rattle.std.proofs.Common.{◌≡◌, ℕ, Bool, true, IsTrue, List, Option, Some, None, Result, Ok, Err, refl, sym, ap, subst, ◌∙◌, inl, inr, ⊎_elim, ◌⊎◌, arith}
 use Rattle.std.specs.Prelude.{IsSome}
 use Rattle.std.proofs.lemmas.Bool.{true≢false}
 use Rattle.mls_text.specs.Writing.{SinkState}
 use Rattle.mls_ckpt.specs.CellParts.{sums_part, part_at}
+use Rattle.mls_ckpt.specs.declared.faults.CkptWhy.{CkptWhy}
+use Rattle.mls_model.specs.Histories.{LaneEvent}
+use Rattle.mls_model.specs.Survival.{crash_after_save}
+use Rattle.mls_book.specs.Histories.{Sure}
 use Rattle.mls_book.specs.Keepers.{KeeperState}
 use Rattle.mls_result.specs.declared.status.Status.{Status}
 use Rattle.mls_result.specs.declared.status.Status.TheVariants as status
-use Rattle.mls_cli.specs.Fold.{Folded}
-use Rattle.mls_cli.specs.Answers.{Answers, AllTell, AreSound, Exactly, IsAnswered, IsAsked, IsRefusal, IsRight, IsSureFold, KeepersAnswer, NoneRose, RoseAt, TakesText, asked_status}
+use Rattle.mls_cli.specs.Fold.{Folded, folded_histories}
+use Rattle.mls_cli.specs.Answers.{Answers, AreSound, Exactly, IsAnswered, IsAsked, IsRefusal, IsRight, IsSureFold, KeepersAnswer, NoneRose, RoseAt, TakesText, asked_status}
 
 -- what is right, where the answer is a refusal
 told_right : (sound : Bool) (sure : Type 0) (right : Result (List ℕ) Status) (old new : SinkState) (s : Status) → IsRefusal s → Answers sound sure right old new s → right ≡ Err s
@@ -73,17 +77,16 @@ exact sound sure right old new s refusal is h = record {
 text_told : (sound : Bool) (sure : Type 0) (right : Result (List ℕ) Status) (old new : SinkState) (s : Status) → IsRefusal s → IsRight right → Answers sound sure right old new s → ⊥
 text_told sound sure right old new s is there h = not_refused s (subst IsRight (told_right sound sure right old new s is h) there)
 
--- where all keepers tell, what a fold leaves is sure, and no checkpoint is bad
-pub sure_fold : (folded : Option Folded) (keepers : List KeeperState) → AllTell keepers → IsSureFold folded keepers
-sure_fold None keepers tell = tt
-sure_fold (Some f) keepers tell = λ rank keeper there. inl (tell rank keeper there)
-
+-- where it is sure what the keepers leave, no checkpoint is bad
 none_untold : (held : Option (Option (List ℕ))) → IsSome held → held ≡ None → ⊥
 none_untold held told none = true≢false (sym (subst IsSome none told))
 
-never_bad : (folded : Option Folded) (rank at : ℕ) (why : Rattle.mls_ckpt.specs.declared.faults.CkptWhy.CkptWhy) (keepers keepers' : List KeeperState) → AllTell keepers → KeepersAnswer sums_part part_at folded keepers keepers' (status.CheckpointBad rank at why) → ⊥
-never_bad None rank at why keepers keepers' tell leaves = leaves
-never_bad (Some f) rank at why keepers keepers' tell leaves = none_untold leaves.own.before.held (tell rank leaves.own.before leaves.own.was) leaves.own.related.untold
+not_sure : (held : Option (Option (List ℕ))) (h : List LaneEvent) → Sure held h → held ≡ None → crash_after_save h ≡ true → ⊥
+not_sure held h sure none crashes = ⊎_elim (λ told. none_untold held told none) (λ quiet. true≢false (sym crashes ∙ quiet)) sure
+
+never_bad : (folded : Option Folded) (rank at : ℕ) (why : CkptWhy) (keepers keepers' : List KeeperState) → IsSureFold folded keepers → KeepersAnswer sums_part part_at folded keepers keepers' (status.CheckpointBad rank at why) → ⊥
+never_bad None rank at why keepers keepers' sure leaves = leaves
+never_bad (Some f) rank at why keepers keepers' sure leaves = not_sure leaves.own.before.held (folded_histories f rank) (sure rank leaves.own.before leaves.own.was) leaves.own.related.untold leaves.own.related.crashes
 
 -- where all keepers are sound, none failed
 never_failed : (folded : Option Folded) (rank : ℕ) (keepers keepers' : List KeeperState) → AreSound keepers → KeepersAnswer sums_part part_at folded keepers keepers' (status.KeeperFault rank) → ⊥
@@ -91,7 +94,7 @@ never_failed None rank keepers keepers' sound leaves = leaves
 never_failed (Some f) rank keepers keepers' sound leaves = true≢false (sym (sound rank leaves.own.before leaves.own.was) ∙ leaves.own.related.unsound)
 
 -- where there is a text that is right, the keepers tell and no fault of the outside came, it is written or memory is wanting
-pub completed : (sound : Bool) (sure : Type 0) (right : Result (List ℕ) Status) (old new : SinkState) (folded : Option Folded) (keepers keepers' : List KeeperState) (s : Status) → IsRight right → AllTell keepers → NoneRose keepers keepers' → (s ≡ status.ReadFault → ⊥) → (s ≡ status.WriteFault → ⊥)
+pub completed : (sound : Bool) (sure : Type 0) (right : Result (List ℕ) Status) (old new : SinkState) (folded : Option Folded) (keepers keepers' : List KeeperState) (s : Status) → IsRight right → IsSureFold folded keepers → NoneRose keepers keepers' → (s ≡ status.ReadFault → ⊥) → (s ≡ status.WriteFault → ⊥)
     → ((rank : ℕ) → s ≡ status.KeeperFault rank → RoseAt rank keepers keepers') → KeepersAnswer sums_part part_at folded keepers keepers' s → Answers sound sure right old new s → (s ≡ status.Done) ⊎ (s ≡ status.Memory)
 completed sound sure right old new folded keepers keepers' status.Done there tell none read write failed leaves h = inl refl
 completed sound sure right old new folded keepers keepers' status.Memory there tell none read write failed leaves h = inr refl
@@ -125,7 +128,7 @@ never_unwritten sound sure (Ok text) old new is takes h = let few = (h is).unsur
 never_unwritten sound sure (Err s) old new is takes h = h
 
 -- over a sound outside that tells and takes the text for sure, the answer is the one that is asked for, or memory is wanting
-pub asked : (sound : Bool) (sure : Type 0) (right : Result (List ℕ) Status) (old new : SinkState) (folded : Option Folded) (keepers keepers' : List KeeperState) (s : Status) → IsTrue sound → sure → AllTell keepers → AreSound keepers → TakesText right old
+pub asked : (sound : Bool) (sure : Type 0) (right : Result (List ℕ) Status) (old new : SinkState) (folded : Option Folded) (keepers keepers' : List KeeperState) (s : Status) → IsTrue sound → sure → IsSureFold folded keepers → AreSound keepers → TakesText right old
     → KeepersAnswer sums_part part_at folded keepers keepers' s → Answers sound sure right old new s → IsAsked right s
 asked sound sure right old new folded keepers keepers' status.Done is are tell all takes leaves h = asked_done right (done_is_right sound sure right old new h)
 asked sound sure right old new folded keepers keepers' status.Memory is are tell all takes leaves h = inr refl

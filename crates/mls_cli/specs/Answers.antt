@@ -1,5 +1,5 @@
 -- How an answer and what stands outside agree with what is right.
-use Rattle.std.specs.Prelude.{◌≡◌, ℕ, ◌≤◌, Bool, List, length, Option, None, Some, IsSome, Result, Ok, Err, IsOkAnd, IsTrue, ◌⊎◌, ⊤}
+use Rattle.std.specs.Prelude.{◌≡◌, ℕ, ◌≤◌, Bool, List, length, Option, None, Some, Result, Ok, Err, IsOkAnd, IsTrue, ◌⊎◌, ⊤}
 use Rattle.mls_base.specs.Told.{Names, Rose}
 use Rattle.mls_text.specs.Writing.{SinkState, Wrote, FailedAfter}
 use Rattle.mls_model.specs.Numbers.{element}
@@ -67,10 +67,7 @@ KeepersAnswer part_of part_at (Some f) old new answer = FoldLeaves part_of part_
 abbrev pub RoseAt : ℕ → List KeeperState → List KeeperState → Type 0
 RoseAt rank old new = AtRank rank old new (λ before after. Rose before.faults after.faults)
 
--- each keeper tells what it holds; each is sound; none had a call that failed
-abbrev pub AllTell : List KeeperState → Type 0
-AllTell keepers = (rank : ℕ) (keeper : KeeperState) → element keepers rank ≡ Some keeper → IsSome keeper.held
-
+-- each keeper is sound; none had a call that failed
 abbrev pub AreSound : List KeeperState → Type 0
 AreSound keepers = (rank : ℕ) (keeper : KeeperState) → element keepers rank ≡ Some keeper → IsTrue keeper.sound
 

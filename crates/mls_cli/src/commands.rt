@@ -7,7 +7,7 @@ ghost use Rattle.mls_book.specs.Keepers.{keepers_seen};
 ghost use Rattle.mls_cli.specs.Words.{words_of};
 ghost use Rattle.mls_cli.specs.Ideal.{RefusesExactly, ideal, fold_of, right_command, command_fold};
 ghost use Rattle.mls_cli.specs.Answers.{Answers, Carries, DidNotRise, IsAsked, IsDoneOrMemory, IsQuiet, IsRight, IsUncalled};
-ghost use Rattle.mls_cli.specs.Answers.{AllTell, AreSound, IsOfCores, IsSureFold, KeepersAnswer, NoneRose, RoseAt, TakesText};
+ghost use Rattle.mls_cli.specs.Answers.{AreSound, IsOfCores, IsSureFold, KeepersAnswer, NoneRose, RoseAt, TakesText};
 ghost use Rattle.mls_cli.specs.Refusals.{seen};
 
 use crate::design::run_design;
@@ -134,10 +134,12 @@ pub fn melissa<F: Files, O: Sink, K: Keeper + Drop>(
     // Each refusal comes exactly where it is the first, but that memory may be wanting or a read may fail before.
     ensures refused { RefusesExactly (F.held files.old) (map string_bytes words.now) result.0 }
 
-    // Over a sound outside that tells, whose sink takes the text for sure, the answer is the one that the words and the
-    // files ask for, or memory is wanting: a read fails exactly where the first refusal is that a name isn't held.
+    // Over sound files that tell, sound keepers of which it is known what they leave, and a sink that takes the text for
+    // sure, the answer is the one that the words and the files ask for, or memory is wanting: a read fails exactly where
+    // the first refusal is that a name isn't held.
     ensures sound { (held : Names) → F.held files.old ≡ Some held → IsTrue (F.sound files.old) →
-        AllTell (keepers_seen K.Keeper keepers.items) → AreSound (keepers_seen K.Keeper keepers.items) →
+        IsSureFold (fold_of held (map string_bytes words.now)) (keepers_seen K.Keeper keepers.items) →
+        AreSound (keepers_seen K.Keeper keepers.items) →
         TakesText (ideal held (map string_bytes words.now)) (sink_seen O.told O.faults O.sure out.old) →
         IsAsked (ideal held (map string_bytes words.now)) result.0 }
 
@@ -150,10 +152,10 @@ pub fn melissa<F: Files, O: Sink, K: Keeper + Drop>(
     // After every answer but `Done` and `WriteFault` a told sink is as it was, told files or not.
     ensures quiet { IsQuiet result.0 → O.told out.new ≡ O.told out.old }
 
-    // Where there is a text, the keepers tell and no count rose, it is written or memory is wanting.
+    // Where there is a text, it is known what the keepers leave, and no count rose, it is written or memory is wanting.
     ensures complete { (held : Names) → F.held files.old ≡ Some held →
         IsRight (ideal held (map string_bytes words.now)) →
-        AllTell (keepers_seen K.Keeper keepers.items) →
+        IsSureFold (fold_of held (map string_bytes words.now)) (keepers_seen K.Keeper keepers.items) →
         DidNotRise (F.load_faults files.old) (F.load_faults files.new) →
         DidNotRise (O.faults out.old) (O.faults out.new) →
         NoneRose (keepers_seen K.Keeper keepers.items) (keepers_seen K.Keeper result.1.items) →
