@@ -16,7 +16,7 @@ use Rattle.mls_model.specs.Schedules.{is_complete, plain}
 use Rattle.mls_laws.proofs.Fits.{all_fit}
 use Rattle.mls_orders.specs.Tapes.{rank_events, tape_pieces, TakesTheTape}
 use Rattle.mls_orders.specs.OrderFree.{IsOrderFree, some_life_has_all}
-use Rattle.mls_orders.specs.CellLines.{group_row, cell_lines, first_lines}
+use Rattle.mls_orders.specs.CellLines.{group_row, cell_lines, first_lines, text_with_plain_lines}
 use Rattle.mls_orders.proofs.CellTexts.{cell_same}
 use Rattle.mls_orders.proofs.Found.{passes, are_below}
 use Rattle.mls_orders.proofs.WholeKeys.{completed_by_tape}
@@ -81,6 +81,7 @@ lines_of_complete study lanes a b free complete too = lines_of_taken study lanes
 pub lines_of_plain : (study : Study) (lanes : List Lane) (orders : List (List ℕ)) → IsOrderFree study.sizes lanes → is_complete study.sizes.ranks lanes orders ≡ true → cell_lines study (histories_of lanes orders) ≡ cell_lines study (histories_of lanes (plain study.sizes.ranks lanes))
 lines_of_plain study lanes orders free complete = lines_of_taken study lanes (histories_of lanes orders) (histories_of lanes (plain study.sizes.ranks lanes)) free (complete_takes study.sizes.ranks lanes orders complete) (plain_takes study.sizes.ranks lanes)
 
-pub plain_parts : (study : Study) (lanes : List Lane) (orders : List (List ℕ)) → IsOrderFree study.sizes lanes → is_complete study.sizes.ranks lanes orders ≡ true → result_text study lanes orders ≡ first_lines study (histories_of lanes orders) (lines_of lanes) ++ (cell_lines study (histories_of lanes (plain study.sizes.ranks lanes)) ++ codes "end\n")
+pub plain_parts : (study : Study) (lanes : List Lane) (orders : List (List ℕ)) → IsOrderFree study.sizes lanes → is_complete study.sizes.ranks lanes orders ≡ true → result_text study lanes orders ≡ text_with_plain_lines study lanes orders
+unfolding text_with_plain_lines
 plain_parts study lanes orders free complete =
     result_parts study lanes orders ∙ ap (λ (ns : List ℕ). first_lines study (histories_of lanes orders) (lines_of lanes) ++ (ns ++ codes "end\n")) (lines_of_plain study lanes orders free complete)

@@ -1,18 +1,20 @@
 -- The fitting pieces that survive in a rank's history are those of its lanes, in another order.
-use Rattle.std.proofs.Common.{◌≡◌, ℕ, Bool, true, false, cond, eqb, List, [], ◌∷◌, IsPermutation, refl, sym, ◌∙◌, subst}
+use Rattle.std.proofs.Common.{◌≡◌, ℕ, Bool, true, false, ◌&&◌, cond, eqb, List, [], ◌∷◌, ◌++◌, IsPermutation, refl, sym, ◌∙◌, subst}
 use Rattle.std.specs.List.{list_any, AllByRecursion}
-use Rattle.std.proofs.lemmas.Bool.{or_from}
+use Rattle.std.proofs.lemmas.Bool.{or_from, or_parts}
 use Rattle.std.proofs.lemmas.List.Folds.{list_any-append}
 use Rattle.std.proofs.lemmas.List.Sorted.{list_any-IsPermutation}
 use Rattle.mls_model.specs.Studies.{Sizes}
 use Rattle.mls_model.specs.Lanes.{Lane}
 use Rattle.mls_model.specs.Histories.{LaneEvent, history}
-use Rattle.mls_model.specs.Survival.{is_crash}
+use Rattle.mls_model.specs.Places.{any_place}
+use Rattle.mls_model.specs.Survival.{is_save, is_crash, crash_after_save}
 use Rattle.mls_model.specs.Fitting.{fitting, fitting_piece}
 use Rattle.mls_model.specs.ResultText.{pieces_of, histories_of, order_at}
 use Rattle.mls_model.specs.Schedules.{is_complete, plain}
 use Rattle.mls_laws.proofs.Surviving.{surviving_all}
 use Rattle.mls_orders.specs.Tapes.{lane_events, rank_events, tape_pieces, TakesTheTape}
+use Rattle.mls_orders.specs.OrderFree.{IsOrderFree}
 use Rattle.mls_orders.proofs.Permuting.{filter_mapped}
 use Rattle.mls_orders.proofs.Turns.{complete_turns, plain_turns}
 use Rattle.mls_orders.proofs.Interleaved.{history_permuted}
@@ -43,3 +45,22 @@ complete_takes ranks lanes orders complete = λ rank within. history_permuted la
 
 pub plain_takes : (ranks : ℕ) (lanes : List Lane) → TakesTheTape ranks lanes (histories_of lanes (plain ranks lanes))
 plain_takes ranks lanes = λ rank within. history_permuted lanes rank (order_at (plain ranks lanes) rank) (λ k. plain_turns ranks lanes rank k within)
+
+-- no crash is taken from a tape without one, so none behind a save
+pub no_crash_taken : (s : Sizes) (lanes : List Lane) (orders : List (List ℕ)) (rank : ℕ) → IsOrderFree s lanes → is_complete s.ranks lanes orders ≡ true → list_any is_crash (histories_of lanes orders rank) ≡ false
+no_crash_taken s lanes orders rank free complete =
+    list_any-IsPermutation is_crash _ _ (history_permuted lanes rank (order_at orders rank) (complete_turns s.ranks lanes orders complete rank)) ∙ calm_rank lanes rank free.no_crash
+
+calm_test : (before : List LaneEvent) (e : LaneEvent) → is_crash e ≡ false → (is_crash e && list_any is_save before) ≡ false
+calm_test before e calm = rw calm refl
+
+calm_places : (before after : List LaneEvent) → list_any is_crash after ≡ false → any_place (λ between e. is_crash e && list_any is_save between) before after ≡ false
+unfolding any_place
+calm_places before [] calm = refl
+calm_places before (e ∷ after) calm =
+    let parts = or_parts (is_crash e) (list_any is_crash after) calm in
+    or_from _ _ (calm_test before e parts.0) (calm_places (before ++ e ∷ []) after parts.1)
+
+pub no_crash_behind : (s : Sizes) (lanes : List Lane) (orders : List (List ℕ)) (rank : ℕ) → IsOrderFree s lanes → is_complete s.ranks lanes orders ≡ true → crash_after_save (histories_of lanes orders rank) ≡ false
+unfolding crash_after_save
+no_crash_behind s lanes orders rank free complete = calm_places [] (histories_of lanes orders rank) (no_crash_taken s lanes orders rank free complete)

@@ -1,14 +1,16 @@
 -- The rows that a tape gives, and the lines that are printed of them.
-use Rattle.std.specs.Prelude.{ℕ, ◌-◌, ◌&&◌, Bool, List, [], ◌++◌, ◌==◌, Some, None}
+use Rattle.std.specs.Prelude.{ℕ, ◌-◌, ◌&&◌, Bool, List, [], ◌++◌, ◌==◌, Some, None, codes}
 use Rattle.std.specs.List.{find}
 use Rattle.mls_model.specs.Studies.{Study, Sizes}
 use Rattle.mls_model.specs.Blocks.{client_of}
 use Rattle.mls_model.specs.Frames.{Piece}
 use Rattle.mls_model.specs.declared.lanes.LaneLine.{LaneLine}
+use Rattle.mls_model.specs.Lanes.{Lane}
 use Rattle.mls_model.specs.Histories.{LaneEvent}
+use Rattle.mls_model.specs.Schedules.{plain}
 use Rattle.mls_model.specs.Completion.{Key, is_of_key}
 use Rattle.mls_model.specs.AcceptedRows.{samples_at}
-use Rattle.mls_model.specs.ResultText.{title, study_line, rank_lines, lane_lines, cells_text, rows_said, history_rows, history_counts}
+use Rattle.mls_model.specs.ResultText.{title, study_line, rank_lines, lane_lines, cells_text, rows_said, history_rows, history_counts, histories_of, lines_of}
 
 -- a piece of the key from this client, whatever its life
 abbrev pub is_from : Key → ℕ → Piece → Bool
@@ -29,3 +31,8 @@ cell_lines study histories = cells_text study (rows_said study (history_rows stu
 -- the lines before them
 unfoldable pub first_lines : Study → (ℕ → List LaneEvent) → List LaneLine → List ℕ
 first_lines study histories lines = title ++ (study_line study ++ (rank_lines (history_counts study.sizes histories) ++ lane_lines lines))
+
+-- the lines of a schedule's result text before the step and cell lines, the step and cell lines of the plain schedule, and the
+-- line `end`
+unfoldable pub text_with_plain_lines : Study → List Lane → List (List ℕ) → List ℕ
+text_with_plain_lines study lanes orders = first_lines study (histories_of lanes orders) (lines_of lanes) ++ (cell_lines study (histories_of lanes (plain study.sizes.ranks lanes)) ++ codes "end\n")

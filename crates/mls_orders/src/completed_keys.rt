@@ -1,10 +1,12 @@
 //! Which events a rank takes and which keys it completes, from the tape alone.
 
-ghost use Rattle.std.specs.Prelude.{◌≡◌, ℕ, ◌<◌, true, List};
+ghost use Rattle.std.specs.Prelude.{◌≡◌, ℕ, ◌<◌, true, false, List};
+ghost use Rattle.std.specs.List.{list_any};
 ghost use Rattle.mls_model.specs.Studies.{Sizes};
 ghost use Rattle.mls_model.specs.Lanes.{Lane};
 ghost use Rattle.mls_model.specs.Histories.{LaneEvent};
 ghost use Rattle.mls_model.specs.Schedules.{is_complete, plain};
+ghost use Rattle.mls_model.specs.Survival.{is_crash, crash_after_save};
 ghost use Rattle.mls_model.specs.Completion.{Key, is_completed};
 ghost use Rattle.mls_model.specs.ResultText.{pieces_of, histories_of};
 ghost use Rattle.mls_orders.specs.Tapes.{tape_pieces, TakesTheTape};
@@ -17,6 +19,15 @@ pub fn schedules_take_the_tape()
         is_complete ranks lanes orders ≡ true → TakesTheTape ranks lanes (histories_of lanes orders) }
     ensures plain { (ranks : ℕ) (lanes : List Lane) →
         TakesTheTape ranks lanes (histories_of lanes (plain ranks lanes)) }
+{}
+
+/// On a tape that meets the premise no history has a crash, so none behind a save.
+pub fn no_rank_crashes()
+    ensures none { (s : Sizes) (lanes : List Lane) (orders : List (List ℕ)) (rank : ℕ) → IsOrderFree s lanes →
+        is_complete s.ranks lanes orders ≡ true → list_any is_crash (histories_of lanes orders rank) ≡ false }
+    ensures none_after_save { (s : Sizes) (lanes : List Lane) (orders : List (List ℕ)) (rank : ℕ) →
+        IsOrderFree s lanes → is_complete s.ranks lanes orders ≡ true →
+        crash_after_save (histories_of lanes orders rank) ≡ false }
 {}
 
 /// On a tape that meets the premise a rank completes a key exactly where some life has a fitting piece of each client

@@ -9,7 +9,7 @@ ghost use Rattle.mls_model.specs.Schedules.{is_complete, plain};
 ghost use Rattle.mls_model.specs.ResultText.{histories_of, history_text, lines_of, result_text};
 ghost use Rattle.mls_orders.specs.Tapes.{TakesTheTape};
 ghost use Rattle.mls_orders.specs.OrderFree.{IsOrderFree};
-ghost use Rattle.mls_orders.specs.CellLines.{cell_lines, first_lines};
+ghost use Rattle.mls_orders.specs.CellLines.{cell_lines, first_lines, text_with_plain_lines};
 
 /// A result text is the lines before the step and cell lines, these lines, and the line `end`.
 pub fn texts_have_cell_lines()
@@ -42,7 +42,5 @@ pub fn cell_lines_are_the_same()
 pub fn result_text_has_the_plain_lines()
     ensures { (study : Study) (lanes : List Lane) (orders : List (List ℕ)) → IsOrderFree study.sizes lanes →
         is_complete study.sizes.ranks lanes orders ≡ true →
-        result_text study lanes orders
-        ≡ first_lines study (histories_of lanes orders) (lines_of lanes)
-        ++ (cell_lines study (histories_of lanes (plain study.sizes.ranks lanes)) ++ codes "end\n") }
+        result_text study lanes orders ≡ text_with_plain_lines study lanes orders }
 {}
