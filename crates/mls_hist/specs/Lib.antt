@@ -4,6 +4,7 @@ pub mod HistPart
 pub mod Waiting
 pub mod Histograms
 pub mod Stands
+pub mod Tables
 pub mod Spelled
 pub mod Packed
 pub mod Passing

@@ -4,7 +4,7 @@ ghost use Rattle.mls_hist.specs.Histograms.{IsHist};
 ghost use Rattle.mls_model.specs.Studies.{AreSizes};
 
 use crate::adding::{WAITING, add_plane, add_samples, gather};
-use crate::cells::{BINS, Counts, MARK, bracket_of, copied, put_counts};
+use crate::cells::{BINS, BinCounts, MARK, bracket_of, copied, put_counts};
 use crate::taken::take_part;
 use mls_base::faults::NoMemory;
 use mls_base::rows::Rows;
@@ -130,7 +130,7 @@ impl RowFold for Hist {
 }
 
 impl Hist {
-    ghost use Rattle.std.specs.Prelude.{◌≡◌, ℕ, ◌+◌, ◌*◌, ◌<◌, ◌≤◌, ◌↔◌, length, slice_index, OnOk, IsNone};
+    ghost use Rattle.std.specs.Prelude.{◌≡◌, ℕ, ◌+◌, ◌*◌, ◌<◌, ◌≤◌, ◌↔◌, length, sum, slice_index, OnOk, IsNone, IfSome};
     ghost use Rattle.mls_model.specs.Studies.{planes};
     ghost use Rattle.mls_model.specs.Blocks.{block, width};
     ghost use Rattle.mls_model.specs.CellSums.{both};
@@ -241,11 +241,12 @@ impl Hist {
         self.waiting[plane as usize]
     }
 
-    // The counts of a cell, with the rows that wait for it.
-    fn whole_counts(&self, plane: u32, cell: u32) -> Counts
+    /// How many samples of A and B of a cell each bin holds, over shifted values, with the rows that wait for it.
+    pub fn whole_counts(&self, plane: u32, cell: u32) -> BinCounts
         requires plane_in { plane < planes (shape_of self.now) }
         requires cell_in { cell < width (block (shape_of self.now) (rank_of self.now)) }
-        ensures { result ≡ bin_counts self.now plane cell }
+        ensures kept { result ≡ bin_counts self.now plane cell }
+        ensures whole { sum result ≡ 2 * row_count self.now plane }
     {
         let places = self.places as usize;
         let place = self.first_cell(plane) + cell as usize;
@@ -283,6 +284,7 @@ impl Hist {
         requires quartile { j ≤ 3 }
         ensures kept { result ≡ bracket_in (bin_counts self.now plane cell) j }
         ensures none { IsNone result ↔ (row_count self.now plane ≡ 0) }
+        ensures within { IfSome result (λ bin. bin < 64) }
         ensures samples { (t : Table) → StandsFor self.now t → result ≡ bracket (both (t plane cell)) j }
     {
         bracket_of(&self.whole_counts(plane, cell), 2 * self.rows(plane), j)

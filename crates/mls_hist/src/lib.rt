@@ -7,5 +7,5 @@ pub mod hist;
 pub mod laws;
 mod taken;
 
-pub use cells::BINS;
+pub use cells::{BIN_WIDTH, BINS, BinCounts, bracket_of};
 pub use hist::Hist;

@@ -8,7 +8,7 @@ use Rattle.mls_hist.proofs.hist.Hist.put_plane.Goals as goal
 
 pub loop-cell-preserved : goal.loop-cell-preserved
 loop-cell-preserved c = below_put counts_text (bin_counts c.args.self.now c.args.plane) c.loop-cell.cell c.args.out.now c.loop-cell.out c.put_counts.new.out c.loop-cell.invariant
-    (subst (λ (xs : List ℕ). Grown c.loop-cell.out c.put_counts.new.out (counts_text xs)) c.whole_counts.ensures c.in_ok-put_counts.ensures)
+    (subst (λ (xs : List ℕ). Grown c.loop-cell.out c.put_counts.new.out (counts_text xs)) c.whole_counts.ensures.kept c.in_ok-put_counts.ensures)
 
 pub returns : goal.returns
 returns c = plane_grown c.args.self.now c.args.plane c.loop-cell.cell c.args.out.now c.loop-cell.out (omega (arith, c.args.self.now.kept.block_width)) c.loop-cell.invariant

@@ -1,4 +1,5 @@
 use Rattle.std.proofs.Common.{◌≡◌, ℕ, ◌+◌, ◌*◌, ◌<◌, length, get_or, ap, ◌∙◌, sym, arith}
+use Rattle.std.specs.Prelude.{sum}
 use Rattle.mls_field.proofs.Grid.{plane_before}
 use Rattle.mls_hist.specs.Bins.{count_in}
 use Rattle.mls_hist.specs.Waiting.{column}
@@ -6,7 +7,7 @@ use Rattle.mls_hist.specs.Histograms.{cell_start}
 use Rattle.mls_hist.specs.Stands.{bin_count}
 use Rattle.mls_hist.proofs.Counting.{counts_opened}
 use Rattle.mls_hist.proofs.RowsAdded.{count_opened}
-use Rattle.mls_hist.proofs.Entries.{list_is, added_small}
+use Rattle.mls_hist.proofs.Entries.{list_is, added_small, counts_sum}
 use Rattle.mls_hist.proofs.Parts.{here}
 use Rattle.mls_hist.proofs.hist.Hist.whole_counts.Goals as goal
 use Rattle.mls_hist.proofs.hist.Hist.whole_counts.Goals.{After-copied-counts}
@@ -34,13 +35,18 @@ add_samples-requires-clause-room c = λ bin low.
     let small = added_small h c.args.plane c.args.cell bin c.requires.plane_in (here h c.args.cell c.requires.cell_in) low in
     omega (arith, is, small)
 
-pub returns : goal.returns
-returns c =
+pub returns-clause-kept : goal.returns-clause-kept
+returns-clause-kept c =
     let h = c.args.self.now in
     let w = h.places in
     let long : length c.add_samples.new.bins ≡ 64 = c.add_samples.auto.bins ∙ c.copied-counts.ensures.long in
     list_is c.add_samples.new.bins (bin_count h c.args.plane c.args.cell) 64 long (λ bin low.
-    let is = was (goal.at.returns c).After-copied-counts bin low in
+    let is = was (goal.at.returns-clause-kept c).After-copied-counts bin low in
     ap (λ m. get_or c.add_samples.new.bins m 0) (let e : bin ≡ 0 + bin = omega arith in e) ∙ c.add_samples.ensures.counts bin low ∙
     ((λ i. is i + count_in bin (column w (c.as_slice-2.ensures.value i) (c.first_sample.ensures.value i + c.args.cell) (2 * c.waiting_rows-waiting.ensures.value i))) ∙
     sym (count_opened w h.waiting.items h.bins.items h.samples.items c.args.plane c.args.cell bin))) ∙ sym (counts_opened w h.waiting.items h.bins.items h.samples.items c.args.plane c.args.cell)
+
+pub returns-clause-whole : goal.returns-clause-whole
+returns-clause-whole c =
+    let h = c.args.self.now in
+    ap sum (returns-clause-kept c) ∙ counts_sum h c.args.plane c.args.cell c.requires.plane_in (here h c.args.cell c.requires.cell_in)
