@@ -10,4 +10,5 @@ pub mod RowsText
 pub mod Splits
 pub mod States
 pub mod Texts
+pub mod ValueSums
 pub mod Whole

@@ -51,12 +51,19 @@ fn put_title<O: Sink>(out: &mut O) -> Result<(), Failed>
     put_bytes(out, b"melissa-result 1\n")
 }
 
+/// Writes the study line. It takes no memory. After `Failed` a front of it went out.
+pub fn put_study<O: Sink>(out: &mut O, study: &Study) -> Result<(), Failed>
+    ensures { WritesTo O.told O.faults O.sure out.old out.new result (study_line study.now) }
+{
+    study_line(study).put(out)
+}
+
 /// Writes the title and the study line.
 pub fn put_head<O: Sink>(out: &mut O, study: &Study) -> Result<(), Failed>
     ensures { WritesTo O.told O.faults O.sure out.old out.new result (title_words ++ study_line study.now) }
 {
     put_title(out)?;
-    study_line(study).put(out)
+    put_study(out, study)
 }
 
 /// Writes the word before the name of a field.
@@ -86,7 +93,8 @@ fn put_field<O: Sink>(out: &mut O, study: &Study, field: u32) -> Result<(), Fail
     Ok(())
 }
 
-/// Writes a step line.
+/// Writes the step line of a field and a cell with so many groups. It takes no memory. After `Failed` a front of it
+/// went out.
 pub fn put_step<O: Sink>(
     out: &mut O,
     study: &Study,

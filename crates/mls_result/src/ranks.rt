@@ -3,6 +3,7 @@
 ghost use Rattle.std.specs.Prelude.{◌≡◌, ℕ, ◌<◌, ◌++◌, length, map};
 ghost use Rattle.mls_model.specs.ResultText.{rank_lines, lane_lines};
 ghost use Rattle.mls_model.specs.declared.outcomes.Counts.{Counts};
+ghost use Rattle.mls_rank.specs.Cores.{counts_of};
 ghost use Rattle.mls_text.specs.Writing.{WritesTo};
 
 use crate::lines::{lane_line, rank_line};
@@ -61,6 +62,14 @@ pub fn put_lanes<O: Sink>(out: &mut O, lanes: &[LaneLine]) -> Result<(), Failed>
         lane_line(lane).put(out)?;
     }
     Ok(())
+}
+
+/// Writes the rank lines of what these cores count, in rising rank. It takes no memory. After `Failed` a front of the
+/// lines went out; that comes only where the sink takes fewer bytes for sure than they have.
+pub fn write_core_ranks<O: Sink>(cores: &[RankCore<Field>], out: &mut O) -> Result<(), Failed>
+    ensures { WritesTo O.told O.faults O.sure out.old out.new result (rank_lines (map counts_of cores.now)) }
+{
+    put_ranks(out, cores)
 }
 
 /// Writes the rank lines of these counts in rising rank, and then the lane lines of these lanes. It takes no memory.

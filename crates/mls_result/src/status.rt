@@ -19,7 +19,7 @@ pub enum FileRole {
 /// A part of the program that is not built yet.
 #[derive(Clone, Copy, Debug, PartialEq, Eq)]
 pub enum Unbuilt {
-    /// A command other than `fold`, `design` and `watch`.
+    /// A command.
     Command,
 }
 
@@ -59,12 +59,30 @@ pub enum Status {
     /// The command is not built yet.
     #[error("not built yet")]
     NotBuilt { part: Unbuilt },
+    /// No connection could be waited for or made.
+    #[error("cannot listen or connect")]
+    DoorFault,
     /// A file has more bytes than it may have.
     #[error("file too long: {}", RoleText(*.file))]
     TooLong { file: FileRole },
     /// The events file is refused at a line, counted from 1.
     #[error("events: line {line}")]
     Events { line: u32 },
+    /// A read or write of a connection failed.
+    #[error("connection failed")]
+    LinkFault,
+    /// The server refused a connection of a group.
+    #[error("refused by server: reason {reason} value {value}")]
+    Refused { reason: u8, value: u32 },
+    /// What the server sent first on a connection of a group is no answer.
+    #[error("unexpected answer")]
+    Peer,
+    /// The study has no such group.
+    #[error("no such group: {group}")]
+    NoGroup { group: u32 },
+    /// The tape of a trial would be too large.
+    #[error("trial too large")]
+    TooLarge,
 }
 
 impl Status {
@@ -87,8 +105,14 @@ impl Status {
             Status::CheckpointBad { .. } => 8,
             Status::Memory => 9,
             Status::NotBuilt { .. } => 10,
+            Status::DoorFault => 11,
             Status::TooLong { .. } => 12,
             Status::Events { .. } => 13,
+            Status::LinkFault => 14,
+            Status::Refused { .. } => 15,
+            Status::Peer => 16,
+            Status::NoGroup { .. } => 17,
+            Status::TooLarge => 18,
         }
     }
 }
