@@ -1,6 +1,7 @@
 -- The ranks one after another: their cores, and what became of their keepers.
 use Rattle.std.proofs.Common.{◌≡◌, ◌≢◌, List, ℕ, zero, suc, [], ◌∷◌, ◌++◌, ◌+◌, ◌<◌, ◌≤◌, Bool, true, false, cond, length, get_or, Option, Some, None, Result, Ok, Err, refl, sym, ◌∙◌, ap, subst, inl, inr, ◌⊎◌, ⊎_elim, arith}
-use Rattle.std.specs.Prelude.{IsSome, IfErr}
+use Rattle.std.specs.Prelude.{IsSome, IfOk, IfErr}
+use Rattle.std.specs.Global.{Vec}
 use Rattle.std.specs.List.{list_any}
 use Rattle.std.specs.Option.{option_map}
 use Rattle.mls_base.specs.Told.{replaced}
@@ -212,3 +213,11 @@ all_stand {F} {K} {T} U s histories entry now cores are stand ran sure = record 
       let own = still_told T.part_of s rank (histories rank) r.before r.after r.related (sure rank r.before r.was) in
       stand rank (get_or cores rank d) k.0 (at_element cores rank d here) k.1 (subst (λ (x : KeeperState). Sure x.held (histories rank)) (sym k.2) own);
 }
+
+-- the same of a run that may have ended
+pub if_all_stand : {F K : Type 0} {T : Ghosts F} (U : keeper.Ghosts K) (s : Sizes) (histories : ℕ → List LaneEvent) (entry now : List K) (answer : Result (Vec (RankCore F T)) FoldFault)
+    → IfOk answer (λ cores. AreCores s cores.items) → IfOk answer (λ cores. StandSure U cores.items now histories)
+    → KeepersAfter answer T.part_of T.part_at s histories (keepers_seen U entry) (keepers_seen U now)
+    → AreSure histories (keepers_seen U entry) → IfOk answer (λ cores. AllStand cores.items histories)
+if_all_stand U s histories entry now (Ok cores) are stand ran sure = all_stand U s histories entry now cores.items are stand ran sure
+if_all_stand U s histories entry now (Err fault) are stand ran sure = tt

@@ -5,9 +5,11 @@ ghost use Rattle.std.specs.List.{list_any};
 ghost use Rattle.mls_model.specs.Numbers.{element};
 ghost use Rattle.mls_model.specs.Lanes.{Lane};
 ghost use Rattle.mls_model.specs.Histories.{history};
-ghost use Rattle.mls_model.specs.Schedules.{is_legal, is_legal_order};
+ghost use Rattle.mls_model.specs.Schedules.{is_complete, is_legal, is_legal_order};
 ghost use Rattle.mls_model.specs.Survival.{is_save};
 ghost use Rattle.mls_model.specs.ResultText.{histories_of, order_at, result_text, lines_of};
+ghost use Rattle.mls_orders.specs.OrderFree.{IsOrderFree};
+ghost use Rattle.mls_orders.specs.CellLines.{text_with_plain_lines};
 ghost use Rattle.mls_book.specs.Histories.{Sure};
 ghost use Rattle.mls_book.specs.Keepers.{AtRank, AreSure, keepers_seen};
 ghost use Rattle.mls_rank.specs.Cores.{sizes_of, rank_of};
@@ -21,6 +23,8 @@ use mls_base::outside::{Keeper, Sink};
 use mls_base::shape::Shape;
 use mls_field::field::Field;
 use mls_field::fold::RowFold;
+use mls_orders::completed_keys::no_rank_crashes;
+use mls_orders::result_lines::result_text_has_the_plain_lines;
 use mls_rank::RankCore;
 use mls_result::{FoldFault, write_result};
 use mls_study::Study;
@@ -67,7 +71,10 @@ fn room_for<F: RowFold>(alloc: Global, ranks: u32) -> Result<Vec<RankCore<F>>, N
 }
 
 /// The core of each rank after the events of its list, in rising rank. Each keeper comes back in its place.
-fn run_ranks<F: RowFold, K: Keeper + Drop>(
+///
+/// A core stands for its rank's history where its keeper tells what it holds, or no crash of the history stands behind a
+/// save. The first event that meets a fault of its keeper ends the run; the later ranks then don't begin.
+pub fn run_ranks<F: RowFold, K: Keeper + Drop>(
     alloc: Global,
     study: &Study,
     tape: &Tape,
@@ -103,7 +110,7 @@ fn run_ranks<F: RowFold, K: Keeper + Drop>(
 }
 
 /// What the text says of each lane, in rising number.
-fn lines_of(alloc: Global, tape: &Tape) -> Result<Vec<LaneLine>, FoldFault>
+pub fn lines_of(alloc: Global, tape: &Tape) -> Result<Vec<LaneLine>, FoldFault>
     ensures value { IfOk result (λ lines. lines.items ≡ lines_of tape.now.lanes) }
     ensures fault { IfErr result (λ fault. fault ≡ FoldFault.Memory) }
 {
@@ -133,9 +140,12 @@ pub fn fold_cores<F: RowFold, K: Keeper + Drop>(
     requires legal { is_legal study.now.sizes.ranks tape.now.lanes schedule.now ≡ true }
 
     // A core for each rank, which stands for the rank's history where its keeper tells or no crash stands behind a save.
+    // They all do where this was so of each keeper at the beginning.
     ensures cores { IfOk result.0 (λ cores. AreCores study.now.sizes cores.items) }
     ensures stand { IfOk result.0 (λ cores.
         StandSure K.Keeper cores.items result.1.items (histories_of tape.now.lanes schedule.now)) }
+    ensures all { AreSure (histories_of tape.now.lanes schedule.now) (keepers_seen K.Keeper keepers.items) →
+        IfOk result.0 (λ cores. AllStand cores.items (histories_of tape.now.lanes schedule.now)) }
     ensures no_write { IfErr result.0 (λ fault. fault ≡ FoldFault.WriteFault → ⊥) }
 
     // Each keeper comes back in its place. Those of ranks without a save, and those of no rank, are never called.
@@ -177,6 +187,9 @@ fn write_cores<O: Sink>(
 /// The text is the one of the ranks' histories where each keeper tells what it holds, or no crash of its rank stands
 /// behind a save; whatever the keepers tell it is the text of one core for each rank. After a fault of a keeper and
 /// after want of memory nothing was written.
+///
+/// Where the order of the tape doesn't matter and the schedule is complete, the text has the step and cell lines of the
+/// plain schedule, whatever the keepers tell.
 pub fn fold<K: Keeper + Drop, O: Sink>(
     alloc: Global,
     study: &Study,
@@ -189,6 +202,10 @@ pub fn fold<K: Keeper + Drop, O: Sink>(
     requires legal { is_legal study.now.sizes.ranks tape.now.lanes schedule.now ≡ true }
     ensures text { AreSure (histories_of tape.now.lanes schedule.now) (keepers_seen K.Keeper keepers.items) →
         FoldsTo O.told O.faults O.sure out.old out.new result.0 (result_text study.now tape.now.lanes schedule.now) }
+    ensures orders { IsOrderFree study.now.sizes tape.now.lanes →
+        is_complete study.now.sizes.ranks tape.now.lanes schedule.now ≡ true →
+        FoldsTo O.told O.faults O.sure out.old out.new result.0
+        (text_with_plain_lines study.now tape.now.lanes schedule.now) }
     ensures cores { FoldsCoresTo ⟦<Field as RowFold>⟧ O.told O.faults O.sure out.old out.new result.0 study.now
         (lines_of tape.now.lanes) }
     ensures places { vec_len result.1 ≡ 64 }
@@ -198,6 +215,8 @@ pub fn fold<K: Keeper + Drop, O: Sink>(
         (histories_of tape.now.lanes schedule.now)
         (keepers_seen K.Keeper keepers.items) (keepers_seen K.Keeper result.1.items) }
 {
+    no_rank_crashes();
+    result_text_has_the_plain_lines();
     let lines = match lines_of(alloc, tape) {
         Ok(lines) => lines,
         Err(fault) => return (Err(fault), keepers),

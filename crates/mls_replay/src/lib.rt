@@ -4,4 +4,4 @@
 mod folding;
 mod ranks;
 
-pub use folding::{fold, fold_cores};
+pub use folding::{fold, fold_cores, lines_of, run_ranks};
