@@ -4,3 +4,4 @@ pub mod Computing
 pub mod Equal
 pub mod ComputingStates
 pub mod TrialComputing
+pub mod ComputingBins

@@ -6,6 +6,7 @@ pub mod Lanes
 pub mod Largest
 pub mod Fields
 pub mod Samples
+pub mod Histograms
 pub mod Studies
 pub mod Sums
 pub mod Designs

@@ -9,6 +9,7 @@ pub mod checkpoints;
 pub mod crashes;
 pub mod designs;
 pub mod fields;
+pub mod histograms;
 pub mod lanes;
 pub mod orders;
 pub mod samples;

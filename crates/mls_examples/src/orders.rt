@@ -8,11 +8,12 @@ ghost use Rattle.mls_examples.specs.Assembly.{two_clients, two_clients_lanes};
 ghost use Rattle.mls_examples.specs.Orders.{premise_tests, both_complete, piece_and_crash, two_samples, half_a_life, first_of_two, second_of_two, first_of_three, last_of_three};
 ghost use Rattle.mls_examples.specs.Ranks.{rows_of};
 
-/// A timestep of two clients, each of which sends its piece once, meets the premise.
+/// A timestep of two clients, each of which sends its piece once, meets the premise, and its two schedules are complete.
 pub fn two_clients_meet_the_premise()
     ensures tests { premise_tests two_clients.sizes two_clients_lanes ≡ true ∷ true ∷ true ∷ [] }
     ensures test { is_order_free two_clients.sizes two_clients_lanes ≡ true }
     ensures premise { IsOrderFree two_clients.sizes two_clients_lanes }
+    ensures complete { both_complete two_clients_lanes first_of_two second_of_two ≡ true }
 {}
 
 /// A crash on a control lane takes the piece that came before it.

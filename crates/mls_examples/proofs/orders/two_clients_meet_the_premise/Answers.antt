@@ -15,3 +15,7 @@ returns-clause-test c = refl
 pub returns-clause-premise : goal.returns-clause-premise
 unfolding of_premise
 returns-clause-premise c = (tested two_clients.sizes two_clients_lanes).0 refl
+
+pub returns-clause-complete : goal.returns-clause-complete
+unfolding of_premise
+returns-clause-complete c = refl

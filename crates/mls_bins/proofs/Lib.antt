@@ -1,0 +1,4 @@
+pub mod CellLines
+pub mod Cells
+pub mod Whole
+pub mod Folds

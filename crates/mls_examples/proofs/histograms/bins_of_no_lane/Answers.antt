@@ -1,0 +1,7 @@
+use Rattle.std.proofs.Common.{refl}
+use Rattle.mls_examples.proofs.ComputingBins.{of_bins}
+use Rattle.mls_examples.proofs.histograms.bins_of_no_lane.Goals as goal
+
+pub returns : goal.returns
+unfolding of_bins
+returns c = refl
