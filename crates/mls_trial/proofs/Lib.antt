@@ -1,0 +1,5 @@
+pub mod Bounds
+pub mod Counts
+pub mod Keepers
+pub mod Sums
+pub mod Whole

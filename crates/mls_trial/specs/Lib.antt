@@ -1,0 +1,4 @@
+pub mod Added
+pub mod Folding
+pub mod Kept
+pub mod Words
