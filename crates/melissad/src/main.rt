@@ -1,0 +1,8 @@
+//! The program `melissad`: sends the pieces of a group to a server.
+#![tactic(auto)]
+
+use std::process::ExitCode;
+
+fn main(rt: HostRuntime) -> ExitCode {
+    mls_live::run_program(&rt)
+}

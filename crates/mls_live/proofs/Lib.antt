@@ -1,0 +1,4 @@
+pub mod Carrying
+pub mod Server
+pub mod Exactness
+pub mod Wording

@@ -1,0 +1,34 @@
+-- What is right: what the words ask to be sent, or their refusal, from the files that are held.
+use Rattle.std.specs.Prelude.{◌≡◌, ℕ, List, Option, Some, None, Result, Ok, Err}
+use Rattle.mls_base.specs.Told.{Names}
+use Rattle.mls_result.specs.declared.status.Status.{Status}
+use Rattle.mls_result.specs.declared.status.Status.TheVariants as status
+use Rattle.mls_result.specs.declared.status.Unbuilt.TheVariants as part
+use Rattle.mls_load.specs.Inputs.{◌>>=◌, not_built}
+use Rattle.mls_live.specs.declared.words.Words.{Words}
+use Rattle.mls_live.specs.declared.words.Words.TheVariants as words
+use Rattle.mls_live.specs.Words.{words_of}
+use Rattle.mls_live.specs.Group.{Sending, right_sending}
+use Rattle.mls_live.specs.Answers.{Exactly, IsRefusal}
+
+-- what a command asks for
+abbrev pub right_command : Words → Names → Result Sending Status
+right_command (words.Group study group life addr) held = right_sending study group life held
+right_command (words.Run study tape workers schedule) held = not_built part.Command
+right_command (words.Serve study addr lanes) held = not_built part.Command
+right_command (words.Poll study addr lanes) held = not_built part.Command
+
+abbrev pub command_or_usage : Option Words → Result Words Status
+command_or_usage None = Err status.Usage
+command_or_usage (Some command) = Ok command
+
+-- What words ask for, or the first refusal in this order: that they are no command, that it is not built, that the study is
+-- refused, then that it has no such group.
+unfoldable pub ideal : Names → List (List ℕ) → Result Sending Status
+ideal held words = do
+  command ← command_or_usage (words_of words)
+  right_command command held
+
+-- Where the files tell what they hold, each refusal is answered exactly where it is the one that these words ask for.
+abbrev pub RefusesExactly : Option Names → (words : List (List ℕ)) → (answer : Status) → Type 0
+RefusesExactly told words answer = (held : Names) → told ≡ Some held → (refusal : Status) → IsRefusal refusal → Exactly (ideal held words) refusal answer

@@ -1,0 +1,56 @@
+//! Why a command has no inputs.
+
+ghost use Rattle.std.specs.Prelude.{◌≡◌};
+ghost use Rattle.mls_load.specs.Refusals.{study_refusal};
+
+use mls_result::{FileRole, Status};
+use mls_study::StudyFault;
+use mls_tape::{SchedWhy, TapeWhy};
+
+/// Why a command has no inputs.
+#[derive(Debug, Drop)]
+pub enum Refusal {
+    /// A file could not be read.
+    ReadFault,
+    /// Memory ran out.
+    Memory,
+    /// The study's bytes are refused.
+    Study(StudyFault),
+    /// The tape's bytes are refused at a place.
+    Tape { at: u64, why: TapeWhy },
+    /// The schedule's bytes are refused at a line.
+    Schedule { line: u32, why: SchedWhy },
+    /// The events file is refused at a line.
+    Events { line: u32 },
+    /// A file has more bytes than it may have.
+    TooLong { file: FileRole },
+}
+
+/// How a command is refused whose study has this fault.
+pub(crate) fn study_refusal(fault: StudyFault) -> Refusal
+    ensures { result ≡ study_refusal fault }
+{
+    match fault {
+        StudyFault::Memory => return Refusal::Memory,
+        fault => return Refusal::Study(fault),
+    }
+}
+
+impl From<Refusal> for Status {
+    ghost use Rattle.std.specs.Prelude.{◌≡◌};
+    ghost use Rattle.mls_load.specs.Refusals.{status_of};
+
+    ghost from_gives = { λ refusal status. status ≡ status_of refusal };
+
+    fn from(refusal: Refusal) -> Status {
+        match refusal {
+            Refusal::ReadFault => Status::ReadFault,
+            Refusal::Memory => Status::Memory,
+            Refusal::Study(fault) => Status::Study(fault),
+            Refusal::Tape { at, why } => Status::Tape { at, why },
+            Refusal::Schedule { line, why } => Status::Schedule { line, why },
+            Refusal::Events { line } => Status::Events { line },
+            Refusal::TooLong { file } => Status::TooLong { file },
+        }
+    }
+}
