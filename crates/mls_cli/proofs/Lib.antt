@@ -2,5 +2,8 @@ pub mod Exactness
 pub mod InputSteps
 pub mod Carrying
 pub mod Folded
+pub mod SaveSteps
+pub mod Making
 pub mod Wording
 pub mod Gathered
+mod PlainLines

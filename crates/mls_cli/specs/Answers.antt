@@ -1,19 +1,26 @@
 -- How an answer and what stands outside agree with what is right.
 use Rattle.std.specs.Prelude.{◌≡◌, ℕ, ◌≤◌, Bool, List, length, Option, None, Some, Result, Ok, Err, IsOkAnd, IsTrue, ◌⊎◌, ⊤}
-use Rattle.mls_base.specs.Told.{Names, Rose}
+use Rattle.mls_base.specs.Told.{Names, MayCease, Rose}
 use Rattle.mls_text.specs.Writing.{SinkState, Wrote, FailedAfter}
 use Rattle.mls_model.specs.Numbers.{element}
-use Rattle.mls_model.specs.Studies.{Sizes}
+use Rattle.mls_model.specs.Studies.{Sizes, Study}
+use Rattle.mls_model.specs.Lanes.{Lane}
 use Rattle.mls_model.specs.Standing.{Table}
-use Rattle.mls_model.specs.ResultText.{lines_of}
+use Rattle.mls_model.specs.ResultText.{lines_of, histories_of}
+use Rattle.mls_design.specs.TrialText.{groups_line, groups_text}
 use Rattle.mls_ckpt.specs.Reading.{Cursor, Read}
-use Rattle.mls_ckpt.specs.CellParts.{sums_part, part_at}
-use Rattle.mls_field.specs.declared.field.Field.{Field}
-use Rattle.mls_field.specs.declared.fold.RowFold.{Ghosts}
+use Rattle.mls_ckpt.specs.CellParts.{sums_part, part_at as sums_at}
 use Rattle.mls_field.specs.contracts.field.FieldRowFold.TheImpl.{ghosts as field_ghosts}
+use Rattle.mls_hist.specs.HistPart.{hist_part, part_at as hist_at}
+use Rattle.mls_hist.specs.contracts.hist.HistRowFold.TheImpl.{ghosts as hist_ghosts}
 use Rattle.mls_book.specs.Keepers.{KeeperState, AreSure, AtRank, HaveRun, EndedAt, HasFailed, HasGivenNone}
 use Rattle.mls_replay.specs.Folding.{OfCores}
-use Rattle.mls_cli.specs.Fold.{Folded, folded_histories}
+use Rattle.mls_bins.specs.Folding.{BinsOfCores}
+use Rattle.mls_trial.specs.Folding.{TrialOfCores}
+use Rattle.mls_cli.specs.declared.words.NamePair.{NamePair}
+use Rattle.mls_cli.specs.Fold.{Ending, results, histograms, summary, Folded, folded_histories}
+use Rattle.mls_cli.specs.Trial.{folded_tape, folded_schedule}
+use Rattle.mls_cli.specs.Saving.{SavedPair, SavedTapeAtMost, StoppedSaving}
 use Rattle.mls_launch.specs.declared.faults.OutFault.{OutFault}
 use Rattle.mls_launch.specs.declared.faults.OutFault.TheVariants as out
 use Rattle.mls_result.specs.declared.status.Status.{Status}
@@ -25,43 +32,107 @@ abbrev pub IsSureFold : Option Folded → List KeeperState → Type 0
 IsSureFold None keepers = ⊤
 IsSureFold (Some f) keepers = AreSure (folded_histories f) keepers
 
+-- A save of the tape or of the schedule failed before the fold: nothing was written and no keeper was called. The files were not
+-- sound, and the tape may be saved.
+pub record SaveFailed (names : NamePair) (tape : List ℕ) (files files' : FileState) (out out' : SinkState) (keepers keepers' : List KeeperState) : Type 0 where
+  pub left : StoppedSaving names tape files.held files'.held
+  pub rose : Rose files.save_faults files'.save_faults
+  pub unsound : IsTrue files.sound → ⊥
+  pub unwritten : out' ≡ out
+  pub uncalled : keepers' ≡ keepers
+
+-- the same of a command that saves what it folds under names; no other command saves
+abbrev pub SaveFails : Option NamePair → Option Folded → (files files' : FileState) (out out' : SinkState) (keepers keepers' : List KeeperState) → Type 0
+SaveFails (Some names) (Some f) files files' out out' keepers keepers' = SaveFailed names (folded_tape f) files files' out out' keepers keepers'
+SaveFails saved folded files files' out out' keepers keepers' = ⊥
+
 -- After Done the sink has gained the text that is right and nothing else, after a failed write a front of it, where it is sure
--- what the keepers leave. After every other answer the sink is as before. A fault of a keeper comes only where there is a text. A
--- failed read of sound files is the refusal that is right, and so is each other answer but want of memory.
-abbrev pub Answers : (sound : Bool) (sure : Type 0) → Result (List ℕ) Status → SinkState → SinkState → Status → Type 0
-Answers sound sure right old new status.Done = IsOkAnd right (λ text. sure → Wrote old new text)
-Answers sound sure right old new status.WriteFault = IsOkAnd right (λ text. sure → FailedAfter old new text)
-Answers sound sure right old new (status.KeeperFault rank) = IsOkAnd right (λ text. ⊤) × (new ≡ old)
-Answers sound sure right old new (status.CheckpointBad rank at why) = IsOkAnd right (λ text. ⊤) × (new ≡ old)
-Answers sound sure right old new status.Memory = new ≡ old
-Answers sound sure right old new status.ReadFault = (IsTrue sound → right ≡ Err status.ReadFault) × (new ≡ old)
-Answers sound sure right old new answer = (right ≡ Err answer) × (new ≡ old)
+-- what the keepers leave, or a save before it failed. After every other answer the sink is as before. A fault of a keeper comes
+-- only where there is a text. A failed read of sound files is the refusal that is right, and so is each other answer but want of
+-- memory.
+abbrev pub Answers : (sound : Bool) (unsaved sure : Type 0) → Result (List ℕ) Status → SinkState → SinkState → Status → Type 0
+Answers sound unsaved sure right old new status.Done = IsOkAnd right (λ text. sure → Wrote old new text)
+Answers sound unsaved sure right old new status.WriteFault = IsOkAnd right (λ text. unsaved ⊎ (sure → FailedAfter old new text))
+Answers sound unsaved sure right old new (status.KeeperFault rank) = IsOkAnd right (λ text. ⊤) × (new ≡ old)
+Answers sound unsaved sure right old new (status.CheckpointBad rank at why) = IsOkAnd right (λ text. ⊤) × (new ≡ old)
+Answers sound unsaved sure right old new status.Memory = new ≡ old
+Answers sound unsaved sure right old new status.ReadFault = (IsTrue sound → right ≡ Err status.ReadFault) × (new ≡ old)
+Answers sound unsaved sure right old new answer = (right ≡ Err answer) × (new ≡ old)
+
+-- some cores of the study, whose text with these lanes, by the fold's ending, goes out so
+abbrev pub OfEnding : Ending → Study → List Lane → (goes : List ℕ → Type 0) → Type 0
+OfEnding results study lanes goes = OfCores field_ghosts study (lines_of lanes) goes
+OfEnding histograms study lanes goes = BinsOfCores hist_ghosts study (lines_of lanes) goes
+OfEnding (summary number) study lanes goes = TrialOfCores field_ghosts study number lanes goes
 
 -- Whatever the keepers tell, what a fold appended is the text of some cores of the study and of the tape's lanes, and after a
--- failed write a front of such a text.
-abbrev pub IsOfCores : (T : Ghosts Field) → Option Folded → SinkState → SinkState → Status → Type 0
-IsOfCores T None old new answer = ⊤
-IsOfCores T (Some f) old new status.Done = OfCores T f.study (lines_of f.lanes) (Wrote old new)
-IsOfCores T (Some f) old new status.WriteFault = OfCores T f.study (lines_of f.lanes) (FailedAfter old new)
-IsOfCores T (Some f) old new answer = ⊤
+-- failed write a front of such a text, or a save before it failed.
+abbrev pub IsOfCores : (unsaved : Type 0) → Option Folded → SinkState → SinkState → Status → Type 0
+IsOfCores unsaved None old new answer = ⊤
+IsOfCores unsaved (Some f) old new status.Done = OfEnding f.ending f.study f.lanes (Wrote old new)
+IsOfCores unsaved (Some f) old new status.WriteFault = unsaved ⊎ OfEnding f.ending f.study f.lanes (FailedAfter old new)
+IsOfCores unsaved (Some f) old new answer = ⊤
 
--- Where something was folded, each keeper ran over its rank's whole history; after a rank's fault the keepers below it did, and
--- those above it are as before. A fault of a keeper comes of a fold alone.
-abbrev pub FoldLeaves : (Sizes → ℕ → Table → List ℕ) → (Sizes → ℕ → List ℕ → Cursor → Read Cursor) → Folded → List KeeperState → List KeeperState → Status → Type 0
-FoldLeaves part_of part_at f old new status.Done = HaveRun part_of f.study.sizes (folded_histories f) f.study.sizes.ranks old new
-FoldLeaves part_of part_at f old new status.WriteFault = HaveRun part_of f.study.sizes (folded_histories f) f.study.sizes.ranks old new
-FoldLeaves part_of part_at f old new (status.KeeperFault rank) = EndedAt part_of f.study.sizes (folded_histories f) rank (HasFailed (folded_histories f rank)) old new
-FoldLeaves part_of part_at f old new (status.CheckpointBad rank at why) = EndedAt part_of f.study.sizes (folded_histories f) rank (HasGivenNone part_at f.study.sizes rank at why (folded_histories f rank)) old new
-FoldLeaves part_of part_at f old new answer = ⊤
+-- the part of a checkpoint that has what is folded, by the fold's ending: its spelling, and the place behind it
+abbrev pub ending_part : Ending → Sizes → ℕ → Table → List ℕ
+ending_part results = sums_part
+ending_part histograms = hist_part
+ending_part (summary number) = sums_part
+
+abbrev pub ending_at : Ending → Sizes → ℕ → List ℕ → Cursor → Read Cursor
+ending_at results = sums_at
+ending_at histograms = hist_at
+ending_at (summary number) = sums_at
+
+-- Where something was folded, each keeper ran over its rank's whole history, or a save before it failed; after a rank's fault the
+-- keepers below it did, and those above it are as before. A fault of a keeper comes of a fold alone.
+abbrev pub FoldLeaves : (unsaved : Type 0) → Folded → List KeeperState → List KeeperState → Status → Type 0
+FoldLeaves unsaved f old new status.Done = HaveRun (ending_part f.ending) f.study.sizes (folded_histories f) f.study.sizes.ranks old new
+FoldLeaves unsaved f old new status.WriteFault = unsaved ⊎ HaveRun (ending_part f.ending) f.study.sizes (folded_histories f) f.study.sizes.ranks old new
+FoldLeaves unsaved f old new (status.KeeperFault rank) = EndedAt (ending_part f.ending) f.study.sizes (folded_histories f) rank (HasFailed (folded_histories f rank)) old new
+FoldLeaves unsaved f old new (status.CheckpointBad rank at why) = EndedAt (ending_part f.ending) f.study.sizes (folded_histories f) rank (HasGivenNone (ending_at f.ending) f.study.sizes rank at why (folded_histories f rank)) old new
+FoldLeaves unsaved f old new answer = ⊤
 
 abbrev pub OtherLeaves : List KeeperState → List KeeperState → Status → Type 0
 OtherLeaves old new (status.KeeperFault rank) = ⊥
 OtherLeaves old new (status.CheckpointBad rank at why) = ⊥
 OtherLeaves old new answer = new ≡ old
 
-abbrev pub KeepersAnswer : (Sizes → ℕ → Table → List ℕ) → (Sizes → ℕ → List ℕ → Cursor → Read Cursor) → Option Folded → List KeeperState → List KeeperState → Status → Type 0
-KeepersAnswer part_of part_at None old new answer = OtherLeaves old new answer
-KeepersAnswer part_of part_at (Some f) old new answer = FoldLeaves part_of part_at f old new answer
+abbrev pub KeepersAnswer : (unsaved : Type 0) → Option Folded → List KeeperState → List KeeperState → Status → Type 0
+KeepersAnswer unsaved None old new answer = OtherLeaves old new answer
+KeepersAnswer unsaved (Some f) old new answer = FoldLeaves unsaved f old new answer
+
+-- what is held where all is saved that is to be, and what may be where memory ran out
+abbrev pub AllSaved : Option NamePair → Option Folded → Option Names → Option Names → Type 0
+AllSaved (Some names) (Some f) old new = SavedPair names (folded_tape f) (folded_schedule f) old new
+AllSaved saved folded old new = new ≡ old
+
+abbrev pub MaybeSaved : Option NamePair → Option Folded → Option Names → Option Names → Type 0
+MaybeSaved (Some names) (Some f) old new = SavedTapeAtMost names (folded_tape f) old new ⊎ SavedPair names (folded_tape f) (folded_schedule f) old new
+MaybeSaved saved folded old new = new ≡ old
+
+-- What the files hold. All is saved before a fold begins, and nothing where the command is refused. After a failed read nothing may
+-- be told any more.
+abbrev pub FilesAnswer : (unsaved : Type 0) → Option NamePair → Option Folded → Option Names → Option Names → Status → Type 0
+FilesAnswer unsaved saved folded old new status.Done = AllSaved saved folded old new
+FilesAnswer unsaved saved folded old new status.WriteFault = unsaved ⊎ AllSaved saved folded old new
+FilesAnswer unsaved saved folded old new (status.KeeperFault rank) = AllSaved saved folded old new
+FilesAnswer unsaved saved folded old new (status.CheckpointBad rank at why) = AllSaved saved folded old new
+FilesAnswer unsaved saved folded old new status.Memory = MaybeSaved saved folded old new
+FilesAnswer unsaved saved folded old new status.ReadFault = MayCease old new
+FilesAnswer unsaved saved folded old new answer = new ≡ old
+
+-- The line groups of a trial's summary has the study's number of groups twice.
+abbrev pub HasAllGroups : Ending → Study → List Lane → List (List ℕ) → Type 0
+HasAllGroups results study lanes orders = ⊤
+HasAllGroups histograms study lanes orders = ⊤
+HasAllGroups (summary number) study lanes orders = groups_line study.sizes (histories_of lanes orders) ≡ groups_text study.sizes.groups study.sizes.groups
+
+-- it does where the text or a front of it was written
+abbrev pub GroupsAnswer : Option Folded → Status → Type 0
+GroupsAnswer (Some f) status.Done = HasAllGroups f.ending f.study f.lanes f.orders
+GroupsAnswer (Some f) status.WriteFault = HasAllGroups f.ending f.study f.lanes f.orders
+GroupsAnswer folded answer = ⊤
 
 -- a call of the rank's keeper failed
 abbrev pub RoseAt : ℕ → List KeeperState → List KeeperState → Type 0
@@ -134,16 +205,47 @@ IsUncalled (status.CheckpointBad rank at why) = ⊥
 IsUncalled status.Memory = ⊥
 IsUncalled answer = ⊤
 
--- How a command answers that is to write what the held files ask for, the text or the refusal, by a fold or without one.
-pub record Carries (asked : Names → Result (List ℕ) Status) (folded : Names → Option Folded) (files files' : FileState) (out out' : SinkState) (keepers keepers' : List KeeperState) (answer : Status) : Type 0 where
-  pub right : (held : Names) → files.held ≡ Some held → Answers files.sound (IsSureFold (folded held) keepers) (asked held) out out' answer
-  pub form : (held : Names) → files.held ≡ Some held → IsOfCores field_ghosts (folded held) out out' answer
-  pub leaves : (held : Names) → files.held ≡ Some held → KeepersAnswer sums_part part_at (folded held) keepers keepers' answer
+-- why a write failed: one of the sink, or a save of a command that saves
+abbrev pub WriteFails : Option NamePair → (files files' : FileState) (out out' : SinkState) → Type 0
+WriteFails None files files' out out' = Rose out.faults out'.faults
+WriteFails (Some names) files files' out out' = Rose out.faults out'.faults ⊎ Rose files.save_faults files'.save_faults
+
+-- the count of failed saves: it stands, but that it may rise where a write failed of a command that saves
+abbrev pub MayRise : Option NamePair → (before now : ℕ) → Type 0
+MayRise None before now = now ≡ before
+MayRise (Some names) before now = before ≤ now
+
+abbrev pub SavesCounted : Option NamePair → (before now : ℕ) → Status → Type 0
+SavesCounted saved before now status.WriteFault = MayRise saved before now
+SavesCounted saved before now answer = now ≡ before
+
+-- no save failed of a command that saves
+abbrev pub NoSaveRose : Option NamePair → (before now : ℕ) → Type 0
+NoSaveRose None before now = ⊤
+NoSaveRose (Some names) before now = DidNotRise before now
+
+-- How a command answers over files that tell what they hold, against the text or the refusal that is right.
+pub record TellsRight (saved : Option NamePair) (right : Result (List ℕ) Status) (folded : Option Folded) (files files' : FileState) (out out' : SinkState) (keepers keepers' : List KeeperState) (answer : Status) : Type 0 where
+  -- the text or the refusal, against what was written
+  pub text : Answers files.sound (SaveFails saved folded files files' out out' keepers keepers') (IsSureFold folded keepers) right out out' answer
+  -- what was written, whatever the keepers tell
+  pub form : IsOfCores (SaveFails saved folded files files' out out' keepers keepers') folded out out' answer
+  -- the keepers after it
+  pub leaves : KeepersAnswer (SaveFails saved folded files files' out out' keepers keepers') folded keepers keepers' answer
+  -- the files after it
+  pub stored : FilesAnswer (SaveFails saved folded files files' out out' keepers keepers') saved folded files.held files'.held answer
+  -- the line groups of a trial
+  pub all_groups : GroupsAnswer folded answer
+
+-- How a command answers that is to write what the held files ask for, the text or the refusal, by a fold or without one, and to save
+-- what it folds under these names.
+pub record Carries (saved : Option NamePair) (asked : Names → Result (List ℕ) Status) (folded : Names → Option Folded) (files files' : FileState) (out out' : SinkState) (keepers keepers' : List KeeperState) (answer : Status) : Type 0 where
+  pub told : (held : Names) → files.held ≡ Some held → TellsRight saved (asked held) (folded held) files files' out out' keepers keepers' answer
   pub read_fault : answer ≡ status.ReadFault → Rose files.load_faults files'.load_faults
-  pub write_fault : answer ≡ status.WriteFault → Rose out.faults out'.faults
+  pub write_fault : answer ≡ status.WriteFault → WriteFails saved files files' out out'
   pub keeper_fault : (rank : ℕ) → answer ≡ status.KeeperFault rank → RoseAt rank keepers keepers'
   pub quiet : IsQuiet answer → out'.told ≡ out.told
-  pub saves : files'.save_faults ≡ files.save_faults
+  pub saves : SavesCounted saved files.save_faults files'.save_faults answer
 
 -- what is answered after a text was made in memory and then written
 abbrev pub out_status : {A : Type 0} → Result A OutFault → Status

@@ -6,6 +6,8 @@ use Rattle.mls_model.specs.Lanes.{Lane, TapeRefusal, tape_of}
 use Rattle.mls_model.specs.Schedules.{plain}
 use Rattle.mls_model.specs.Histories.{LaneEvent}
 use Rattle.mls_model.specs.ResultText.{histories_of, result_text}
+use Rattle.mls_hist.specs.BinsText.{bins_text}
+use Rattle.mls_design.specs.TrialText.{trial_summary}
 use Rattle.mls_tape.specs.ScheduleReading.{LineRefusal, longest_schedule, schedule_of}
 use Rattle.mls_tape.specs.Tapes.{longest_tape}
 use Rattle.mls_result.specs.declared.fault.FoldFault.{FoldFault}
@@ -40,26 +42,42 @@ abbrev pub right_orders : (ranks : ℕ) → List Lane → (schedule : Option (Li
 right_orders ranks lanes None held = Ok (plain ranks lanes)
 right_orders ranks lanes (Some schedule_name) held = limited role.Schedule longest_schedule (held schedule_name) >>= content_schedule ranks lanes
 
--- What a fold is carried out over.
+-- what a fold writes in the end: the result text, the bins text over histograms, or the summary of the trial of a number
+pub data Ending : Type 0 where
+  results : Ending
+  histograms : Ending
+  summary : ℕ → Ending
+
+-- its text of a study, the lanes of a tape and a schedule
+abbrev pub ending_text : Ending → Study → List Lane → List (List ℕ) → List ℕ
+ending_text results study lanes orders = result_text study lanes orders
+ending_text histograms study lanes orders = bins_text study lanes orders
+ending_text (summary number) study lanes orders = trial_summary study number lanes orders
+
+-- What a fold is carried out over, and how it ends.
 pub record Folded : Type 0 where
+  pub ending : Ending
   pub study : Study
   pub lanes : List Lane
   pub orders : List (List ℕ)
+
+abbrev pub fold_over : Ending → Study → List Lane → (orders : List (List ℕ)) → Folded
+fold_over ending study lanes orders = record { ending = ending; study = study; lanes = lanes; orders = orders }
 
 -- the history of each rank in it, and its text
 abbrev pub folded_histories : Folded → ℕ → List LaneEvent
 folded_histories f = histories_of f.lanes f.orders
 
 abbrev pub folded_text : Folded → List ℕ
-folded_text f = result_text f.study f.lanes f.orders
+folded_text f = ending_text f.ending f.study f.lanes f.orders
 
--- what a fold of these names is carried out over
-unfoldable pub right_inputs : (study tape : List ℕ) (schedule : Option (List ℕ)) → Names → Result Folded Status
-right_inputs study_name tape_name schedule_name held = do
+-- what a fold of these names is carried out over that ends so
+unfoldable pub right_inputs : Ending → (study tape : List ℕ) (schedule : Option (List ℕ)) → Names → Result Folded Status
+right_inputs ending study_name tape_name schedule_name held = do
   study ← right_study study_name held
   lanes ← right_lanes study tape_name held
   orders ← right_orders study.sizes.ranks lanes schedule_name held
-  Ok (record { study = study; lanes = lanes; orders = orders })
+  Ok (fold_over ending study lanes orders)
 
 -- the text that is asked for over such inputs, and the fold, where there is one
 abbrev pub asked_text : Result Folded Status → Result (List ℕ) Status
@@ -70,9 +88,9 @@ abbrev pub asked_fold : Result Folded Status → Option Folded
 asked_fold (Ok f) = Some f
 asked_fold (Err refusal) = None
 
--- the text of a fold
-abbrev pub right_fold : (study tape : List ℕ) (schedule : Option (List ℕ)) → Names → Result (List ℕ) Status
-right_fold study_name tape_name schedule_name held = asked_text (right_inputs study_name tape_name schedule_name held)
+-- the text of a fold of these names
+abbrev pub right_fold : Ending → (study tape : List ℕ) (schedule : Option (List ℕ)) → Names → Result (List ℕ) Status
+right_fold ending study_name tape_name schedule_name held = asked_text (right_inputs ending study_name tape_name schedule_name held)
 
 -- what is answered after a fold
 abbrev pub fold_status : {A : Type 0} → Result A FoldFault → Status

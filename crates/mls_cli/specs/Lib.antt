@@ -2,8 +2,11 @@ pub mod Words
 pub mod Refusals
 pub mod Inputs
 pub mod Fold
+pub mod Trial
 pub mod Watch
 pub mod Design
+pub mod Saving
 pub mod Ideal
 pub mod Answers
 pub mod Output
+pub mod Orders

@@ -1,6 +1,6 @@
 -- Why a command has no inputs, against what is right.
-use Rattle.std.specs.Prelude.{◌≡◌, ℕ, Bool, IsTrue, Option, Some, Result, Ok, Err, OnOk, MatchResult, ⊤}
-use Rattle.mls_base.specs.Told.{Names, Rose, StaysSound}
+use Rattle.std.specs.Prelude.{◌≡◌, ℕ, Bool, IsTrue, Option, Some, Result, Ok, Err, MatchResult, ⊤}
+use Rattle.mls_base.specs.Told.{Names, MayCease, Rose, StaysSound}
 use Rattle.mls_result.specs.declared.status.Status.{Status}
 use Rattle.mls_result.specs.declared.status.Status.TheVariants as status
 use Rattle.mls_study.specs.declared.fault.StudyFault.{StudyFault}
@@ -17,6 +17,7 @@ status_of (refusal.Tape at why) = status.Tape at why
 status_of (refusal.Schedule line why) = status.Schedule line why
 status_of (refusal.TooLong file) = status.TooLong file
 status_of (refusal.Events line) = status.Events line
+status_of refusal.TooLarge = status.TooLarge
 
 -- how a command is refused whose study has this fault
 abbrev pub study_refusal : StudyFault → Refusal
@@ -39,6 +40,11 @@ abbrev pub Counts : Refusal → ℕ → ℕ → Type 0
 Counts refusal.ReadFault before now = Rose before now
 Counts r before now = now ≡ before
 
+-- what is told after a refusal: as before, but that nothing may be told any more after a failed read
+abbrev pub Leaves : {A : Type 0} → Refusal → Option A → Option A → Type 0
+Leaves refusal.ReadFault old new = MayCease old new
+Leaves r old new = new ≡ old
+
 -- no read failed
 abbrev pub IsOfContent : Refusal → Type 0
 IsOfContent refusal.ReadFault = ⊥
@@ -59,7 +65,7 @@ seen held sound load_faults save_faults files = record { held = held files; soun
 -- are sound where they were.
 pub record Loads {A B : Type 0} (view : A → B) (asked : Names → Result B Status) (old new : FileState) (result : Result A Refusal) : Type 0 where
   pub right : (held : Names) → old.held ≡ Some held → Agrees old.sound view result (asked held)
-  pub same : OnOk result (new.held ≡ old.held)
+  pub same : MatchResult result (λ _. new.held ≡ old.held) (λ r. Leaves r old.held new.held)
   pub sound : StaysSound old.sound new.sound
   pub loads : MatchResult result (λ _. new.load_faults ≡ old.load_faults) (λ r. Counts r old.load_faults new.load_faults)
   pub saves : new.save_faults ≡ old.save_faults

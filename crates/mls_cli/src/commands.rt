@@ -5,18 +5,22 @@ ghost use Rattle.mls_base.specs.Told.{Names, Rose};
 ghost use Rattle.mls_text.specs.Writing.{sink_seen};
 ghost use Rattle.mls_book.specs.Keepers.{keepers_seen};
 ghost use Rattle.mls_cli.specs.Words.{words_of};
-ghost use Rattle.mls_cli.specs.Ideal.{RefusesExactly, ideal, fold_of, right_command, command_fold};
-ghost use Rattle.mls_cli.specs.Answers.{Answers, Carries, DidNotRise, IsAsked, IsDoneOrMemory, IsQuiet, IsRight, IsUncalled};
-ghost use Rattle.mls_cli.specs.Answers.{AreSound, IsOfCores, IsSureFold, KeepersAnswer, NoneRose, RoseAt, TakesText};
+ghost use Rattle.mls_cli.specs.Ideal.{RefusesExactly, ideal, fold_of, saved_of, right_command, command_fold, command_saved};
+ghost use Rattle.mls_cli.specs.Answers.{Carries, DidNotRise, IsAsked, IsDoneOrMemory, IsQuiet, IsRight, IsUncalled};
+ghost use Rattle.mls_cli.specs.Answers.{AreSound, IsSureFold, NoneRose, NoSaveRose, RoseAt, SavesCounted, TakesText};
+ghost use Rattle.mls_cli.specs.Answers.{TellsRight, WriteFails};
 ghost use Rattle.mls_cli.specs.Refusals.{seen};
+ghost use Rattle.mls_cli.specs.Orders.{HasPlainLines, printed_of};
 
+use crate::bins::run_bins;
 use crate::design::run_design;
 use crate::fold::run_fold;
+use crate::trial::run_trial;
 use crate::watch::run_watch;
 use crate::words::{Words, WordsFault, read_words};
 use mls_base::outside::{Files, Keeper, Sink};
-use mls_field::field::Field;
-use mls_field::fold::RowFold;
+use mls_orders::completed_keys::no_rank_crashes;
+use mls_orders::result_lines::result_text_has_the_plain_lines;
 use mls_result::{Status, Unbuilt};
 use std::alloc::Global;
 
@@ -29,7 +33,7 @@ fn carry_out<F: Files, O: Sink, K: Keeper + Drop>(
     keepers: Vec<K>,
 ) -> (Status, Vec<K>)
     requires { vec_len keepers ≡ 64 }
-    ensures carried { Carries (right_command command) (command_fold command)
+    ensures carried { Carries (command_saved command) (right_command command) (command_fold command)
         (seen F.held F.sound F.load_faults F.save_faults files.old)
         (seen F.held F.sound F.load_faults F.save_faults files.new)
         (sink_seen O.told O.faults O.sure out.old) (sink_seen O.told O.faults O.sure out.new)
@@ -52,6 +56,19 @@ fn carry_out<F: Files, O: Sink, K: Keeper + Drop>(
             out,
             keepers,
         ),
+        Words::Bins {
+            study,
+            tape,
+            schedule,
+        } => return run_bins(
+            alloc,
+            study.as_str(),
+            tape.as_str(),
+            &schedule,
+            files,
+            out,
+            keepers,
+        ),
         Words::Watch { study, events } => {
             let status = run_watch(alloc, study.as_str(), events.as_str(), files, out);
             return (status, keepers);
@@ -60,7 +77,12 @@ fn carry_out<F: Files, O: Sink, K: Keeper + Drop>(
             let status = run_design(alloc, study.as_str(), files, out);
             return (status, keepers);
         }
-        Words::Trial { .. } | Words::Bins { .. } | Words::Export { .. } | Words::Resume { .. } => {
+        Words::Trial {
+            study,
+            number,
+            saved,
+        } => return run_trial(alloc, study.as_str(), number, &saved, files, out, keepers),
+        Words::Export { .. } | Words::Resume { .. } => {
             let part = Unbuilt::Command;
             return (Status::NotBuilt { part }, keepers);
         }
@@ -76,7 +98,7 @@ fn run<F: Files, O: Sink, K: Keeper + Drop>(
     keepers: Vec<K>,
 ) -> (Status, Vec<K>)
     requires { vec_len keepers ≡ 64 }
-    ensures carried { Carries (λ held. ideal held (map string_bytes words.now))
+    ensures carried { Carries (saved_of (map string_bytes words.now)) (λ held. ideal held (map string_bytes words.now))
         (λ held. fold_of held (map string_bytes words.now))
         (seen F.held F.sound F.load_faults F.save_faults files.old)
         (seen F.held F.sound F.load_faults F.save_faults files.new)
@@ -98,7 +120,8 @@ fn run<F: Files, O: Sink, K: Keeper + Drop>(
 ///
 /// Where the files tell what they hold, the sink has gained exactly the text that the words and the named files' bytes
 /// ask for where the answer is `Done`, a front of it after `WriteFault`, and nothing after every other answer. A fold
-/// calls the keeper of a rank at the saves and crashes of its history; each keeper comes back in its place.
+/// calls the keeper of a rank at the saves and crashes of its history; each keeper comes back in its place. A trial with
+/// names saves the tape and the schedule that it makes before it folds them; no other command saves a file.
 pub fn melissa<F: Files, O: Sink, K: Keeper + Drop>(
     alloc: Global,
     words: &[String],
@@ -109,24 +132,23 @@ pub fn melissa<F: Files, O: Sink, K: Keeper + Drop>(
     requires { vec_len keepers ≡ 64 }
 
     // The text that is right, or the refusal that is. Of a fold the text is right where each keeper tells what it holds,
-    // or no crash of its rank's history stands behind a save.
+    // or no crash of its rank's history stands behind a save; whatever the keepers tell, it is that of some cores of the
+    // study and of the lanes. Each keeper that tells holds the last save of its rank's history, or what it held; after a
+    // rank's fault the keepers below ran over their histories, and those above are as before. What a trial with names
+    // makes is saved before its fold, and its line `groups` has the study's number of groups twice.
     ensures right { (held : Names) → F.held files.old ≡ Some held →
-        Answers (F.sound files.old)
-        (IsSureFold (fold_of held (map string_bytes words.now)) (keepers_seen K.Keeper keepers.items))
-        (ideal held (map string_bytes words.now))
-        (sink_seen O.told O.faults O.sure out.old) (sink_seen O.told O.faults O.sure out.new) result.0 }
-
-    // Whatever the keepers tell, the text of a fold is that of some cores of the study and of the tape's lanes.
-    ensures form { (held : Names) → F.held files.old ≡ Some held →
-        IsOfCores ⟦<Field as RowFold>⟧ (fold_of held (map string_bytes words.now))
-        (sink_seen O.told O.faults O.sure out.old) (sink_seen O.told O.faults O.sure out.new) result.0 }
-
-    // Each keeper that tells holds the last save of its rank's history, or what it held; it was read at each crash
-    // behind a save. After a rank's fault the keepers below ran over their histories, and those above are as before.
-    ensures keepers { (held : Names) → F.held files.old ≡ Some held →
-        KeepersAnswer ⟦<Field as RowFold>⟧.part_of ⟦<Field as RowFold>⟧.part_at
+        TellsRight (saved_of (map string_bytes words.now)) (ideal held (map string_bytes words.now))
         (fold_of held (map string_bytes words.now))
+        (seen F.held F.sound F.load_faults F.save_faults files.old)
+        (seen F.held F.sound F.load_faults F.save_faults files.new)
+        (sink_seen O.told O.faults O.sure out.old) (sink_seen O.told O.faults O.sure out.new)
         (keepers_seen K.Keeper keepers.items) (keepers_seen K.Keeper result.1.items) result.0 }
+
+    // Where the order of the tape doesn't matter and the schedule is complete, the text of a fold has the step and cell
+    // lines of the plain schedule, whatever the keepers tell.
+    ensures orders { (held : Names) → F.held files.old ≡ Some held → result.0 ≡ Status.Done →
+        HasPlainLines (printed_of held (map string_bytes words.now))
+        (sink_seen O.told O.faults O.sure out.old) (sink_seen O.told O.faults O.sure out.new) }
 
     // Where the words are no command, told files or not.
     ensures usage { (result.0 ≡ Status.Usage) ↔ (words_of (map string_bytes words.now) ≡ None) }
@@ -145,7 +167,10 @@ pub fn melissa<F: Files, O: Sink, K: Keeper + Drop>(
 
     // The causes of faults of the outside.
     ensures read_fault { result.0 ≡ Status.ReadFault → Rose (F.load_faults files.old) (F.load_faults files.new) }
-    ensures write_fault { result.0 ≡ Status.WriteFault → Rose (O.faults out.old) (O.faults out.new) }
+    ensures write_fault { result.0 ≡ Status.WriteFault → WriteFails (saved_of (map string_bytes words.now))
+        (seen F.held F.sound F.load_faults F.save_faults files.old)
+        (seen F.held F.sound F.load_faults F.save_faults files.new)
+        (sink_seen O.told O.faults O.sure out.old) (sink_seen O.told O.faults O.sure out.new) }
     ensures keeper_fault { (rank : ℕ) → result.0 ≡ Status.KeeperFault rank →
         RoseAt rank (keepers_seen K.Keeper keepers.items) (keepers_seen K.Keeper result.1.items) }
 
@@ -157,14 +182,19 @@ pub fn melissa<F: Files, O: Sink, K: Keeper + Drop>(
         IsRight (ideal held (map string_bytes words.now)) →
         IsSureFold (fold_of held (map string_bytes words.now)) (keepers_seen K.Keeper keepers.items) →
         DidNotRise (F.load_faults files.old) (F.load_faults files.new) →
+        NoSaveRose (saved_of (map string_bytes words.now)) (F.save_faults files.old) (F.save_faults files.new) →
         DidNotRise (O.faults out.old) (O.faults out.new) →
         NoneRose (keepers_seen K.Keeper keepers.items) (keepers_seen K.Keeper result.1.items) →
         IsDoneOrMemory result.0 }
 
-    // There are as many keepers as before; after a refusal each is as it was. The count of failed saves stands.
+    // There are as many keepers as before; after a refusal each is as it was. The count of failed saves stands, but
+    // after `WriteFault` of a trial with names.
     ensures places { vec_len result.1 ≡ 64 }
     ensures uncalled { IsUncalled result.0 → result.1 ≡ keepers }
-    ensures saves { F.save_faults files.new ≡ F.save_faults files.old }
+    ensures saves { SavesCounted (saved_of (map string_bytes words.now))
+        (F.save_faults files.old) (F.save_faults files.new) result.0 }
 {
+    no_rank_crashes();
+    result_text_has_the_plain_lines();
     run(alloc, words, files, out, keepers)
 }

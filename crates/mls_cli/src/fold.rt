@@ -1,31 +1,19 @@
 //! The command `fold`.
 
-ghost use Rattle.std.specs.Prelude.{◌≡◌, vec_len};
+ghost use Rattle.std.specs.Prelude.{◌≡◌, None, vec_len};
 ghost use Rattle.mls_text.specs.Writing.{sink_seen};
 ghost use Rattle.mls_book.specs.Keepers.{keepers_seen};
-ghost use Rattle.mls_cli.specs.Fold.{asked_fold, right_inputs, right_fold, fold_status};
+ghost use Rattle.mls_cli.specs.Fold.{results, asked_fold, right_inputs, right_fold};
 ghost use Rattle.mls_cli.specs.Answers.{Carries, IsUncalled};
 ghost use Rattle.mls_cli.specs.Refusals.{seen};
 
 use crate::fold_inputs::load_inputs;
+use crate::written::fold_status;
 use mls_base::outside::{Files, Keeper, Sink};
 use mls_replay::fold;
-use mls_result::{FoldFault, Status};
+use mls_result::Status;
 use mls_study::Name;
 use std::alloc::Global;
-
-/// What is answered after a fold.
-fn fold_status(answer: Result<(), FoldFault>) -> Status
-    ensures { result ≡ fold_status answer }
-{
-    match answer {
-        Ok(()) => Status::Done,
-        Err(FoldFault::KeeperFault { rank }) => Status::KeeperFault { rank },
-        Err(FoldFault::CheckpointBad { rank, at, why }) => Status::CheckpointBad { rank, at, why },
-        Err(FoldFault::WriteFault) => Status::WriteFault,
-        Err(FoldFault::Memory) => Status::Memory,
-    }
-}
 
 /// Folds the study and the tape of these names under their schedule, or under the plain one.
 pub(crate) fn run_fold<F: Files, O: Sink, K: Keeper + Drop>(
@@ -38,8 +26,8 @@ pub(crate) fn run_fold<F: Files, O: Sink, K: Keeper + Drop>(
     keepers: Vec<K>,
 ) -> (Status, Vec<K>)
     requires { vec_len keepers ≡ 64 }
-    ensures carried { Carries (right_fold study_name.now tape_name.now schedule_name.now)
-        (λ held. asked_fold (right_inputs study_name.now tape_name.now schedule_name.now held))
+    ensures carried { Carries None (right_fold results study_name.now tape_name.now schedule_name.now)
+        (λ held. asked_fold (right_inputs results study_name.now tape_name.now schedule_name.now held))
         (seen F.held F.sound F.load_faults F.save_faults files.old)
         (seen F.held F.sound F.load_faults F.save_faults files.new)
         (sink_seen O.told O.faults O.sure out.old) (sink_seen O.told O.faults O.sure out.new)

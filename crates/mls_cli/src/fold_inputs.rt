@@ -4,7 +4,7 @@ ghost use Rattle.std.specs.Prelude.{◌≡◌, ◌≤◌, length, true, Ok, IfOk
 ghost use Rattle.mls_model.specs.Schedules.{plain, is_legal};
 ghost use Rattle.mls_tape.specs.ScheduleReading.{longest_schedule};
 ghost use Rattle.mls_tape.specs.Tapes.{longest_tape};
-ghost use Rattle.mls_cli.specs.Fold.{Folded, content_lanes, content_schedule, right_lanes, right_orders, right_inputs};
+ghost use Rattle.mls_cli.specs.Fold.{Ending, fold_over, content_lanes, content_schedule, right_lanes, right_orders, right_inputs};
 ghost use Rattle.mls_cli.specs.Refusals.{Agrees, IsOfContent, Loads, seen};
 
 use crate::loading::{load, load_study};
@@ -124,9 +124,9 @@ pub(crate) fn load_inputs<F: Files>(
     tape_name: &str,
     schedule_name: &Option<Name>,
 ) -> Result<FoldInputs, Refusal>
-    ensures loads { Loads (λ (inputs : FoldInputs).
-        let f : Folded = record { study = inputs.study; lanes = inputs.tape.lanes; orders = inputs.schedule } in f)
-        (right_inputs study_name.now tape_name.now schedule_name.now)
+    ensures loads { (ending : Ending) → Loads (λ (inputs : FoldInputs).
+        fold_over ending inputs.study inputs.tape.lanes inputs.schedule)
+        (right_inputs ending study_name.now tape_name.now schedule_name.now)
         (seen F.held F.sound F.load_faults F.save_faults files.old)
         (seen F.held F.sound F.load_faults F.save_faults files.new) result }
     ensures legal { IfOk result

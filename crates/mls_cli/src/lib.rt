@@ -1,6 +1,7 @@
 //! The commands of the program `melissa` over files, a sink and keepers, and the program itself.
 #![tactic(auto)]
 
+mod bins;
 mod commands;
 mod design;
 mod fold;
@@ -9,6 +10,8 @@ mod loading;
 mod output;
 mod program;
 mod refusal;
+mod saving;
+mod trial;
 mod watch;
 mod words;
 mod written;

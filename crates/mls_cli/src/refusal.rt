@@ -25,6 +25,8 @@ pub(crate) enum Refusal {
     Events { line: u32 },
     /// A file has more bytes than it may have.
     TooLong { file: FileRole },
+    /// The tape of a trial would pass its limit of bytes or of events.
+    TooLarge,
 }
 
 /// How a command is refused whose study has this fault.
@@ -52,6 +54,7 @@ impl From<Refusal> for Status {
             Refusal::Schedule { line, why } => Status::Schedule { line, why },
             Refusal::Events { line } => Status::Events { line },
             Refusal::TooLong { file } => Status::TooLong { file },
+            Refusal::TooLarge => Status::TooLarge,
         }
     }
 }

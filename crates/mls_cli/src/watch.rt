@@ -85,7 +85,7 @@ pub(crate) fn run_watch<F: Files, O: Sink>(
     files: &mut F,
     out: &mut O,
 ) -> Status
-    ensures carried { (keepers : List KeeperState) → Carries (right_watch study_name.now events_name.now) (λ held. None)
+    ensures carried { (keepers : List KeeperState) → Carries None (right_watch study_name.now events_name.now) (λ held. None)
         (seen F.held F.sound F.load_faults F.save_faults files.old)
         (seen F.held F.sound F.load_faults F.save_faults files.new)
         (sink_seen O.told O.faults O.sure out.old) (sink_seen O.told O.faults O.sure out.new) keepers keepers result }

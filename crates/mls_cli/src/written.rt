@@ -1,10 +1,11 @@
-//! What a command answers after its text was made in memory and written.
+//! What a command answers after its text was written, or its fold was carried out.
 
 ghost use Rattle.std.specs.Prelude.{◌≡◌};
 ghost use Rattle.mls_cli.specs.Answers.{out_status};
+ghost use Rattle.mls_cli.specs.Fold.{fold_status};
 
 use mls_launch::OutFault;
-use mls_result::Status;
+use mls_result::{FoldFault, Status};
 
 /// What a command answers after its text was made in memory and written.
 pub(crate) fn out_status(answer: Result<(), OutFault>) -> Status
@@ -14,5 +15,18 @@ pub(crate) fn out_status(answer: Result<(), OutFault>) -> Status
         Ok(()) => Status::Done,
         Err(OutFault::WriteFault) => Status::WriteFault,
         Err(OutFault::Memory) => Status::Memory,
+    }
+}
+
+/// What a command answers after a fold.
+pub(crate) fn fold_status(answer: Result<(), FoldFault>) -> Status
+    ensures { result ≡ fold_status answer }
+{
+    match answer {
+        Ok(()) => Status::Done,
+        Err(FoldFault::KeeperFault { rank }) => Status::KeeperFault { rank },
+        Err(FoldFault::CheckpointBad { rank, at, why }) => Status::CheckpointBad { rank, at, why },
+        Err(FoldFault::WriteFault) => Status::WriteFault,
+        Err(FoldFault::Memory) => Status::Memory,
     }
 }

@@ -19,11 +19,24 @@ const TAPE: &[u8] = &[
     0, 0, 0, 1, 0, 0, 0, 0, 0, 0, 0, 3, 0, 0, 0, 0, 0, 0, 0, 1, 0, 5, 0, 1, 0, 1,
 ];
 
+// The same of two cells and two clients, a lane of each with its piece of group 0. The second is taken first.
+const SHARED_STUDY: &[u8] =
+    b"cells = 2\nsteps = 1\ngroups = 2\nclients = 2\nstatistics = [\"power\"]\n[[parameters]]\nname = \"x\"\nlow = 0\nhigh = 9\n";
+
+const SHARED_TAPE: &[u8] = &[
+    77, 84, 65, 80, 0, 1, 0, 0, 0, 2, 0, 0, 0, 0, 0, 0, 35, 0, 0, 0, 31, 1, 0, 0, 0, 1, 0, 0, 0, 0,
+    0, 0, 0, 0, 0, 0, 0, 3, 0, 0, 0, 0, 0, 0, 0, 1, 0, 1, 0, 3, 0, 3, 0, 0, 0, 0, 0, 0, 35, 0, 0,
+    0, 31, 1, 0, 0, 0, 1, 0, 0, 0, 0, 0, 0, 0, 0, 0, 1, 0, 3, 0, 0, 0, 1, 0, 0, 0, 1, 0, 5, 0, 1,
+    0, 1,
+];
+
+const SCHEDULE: &[u8] = b"0 1\n0 0\n";
+
 const TEXT: &[u8] =
     b"melissa-result 1\nstudy cells 1 steps 1 groups 2 parameters 1 ranks 1 clients 1\nrank 0 accepted 2 kept 0 replay 0 stale 0 repeated 0 foreign 0 0 0 0 0 0\nlane 0 rank 0 client events 2 clean\nstep 0 cell 0 groups 2\npower 10 36 154 708\nvariance 44/12\nthird 144/64\nend\n";
 
 /// A keeper in memory for each rank there may be, none of which holds anything.
-fn no_checkpoints(alloc: Global) -> Result<Vec<MemKeeper>, AllocError>
+pub(crate) fn no_checkpoints(alloc: Global) -> Result<Vec<MemKeeper>, AllocError>
     ensures { IfOk result (λ keepers. vec_len keepers ≡ 64) }
 {
     let mut keepers = Vec::new(alloc);
@@ -42,6 +55,18 @@ fn two_groups(alloc: Global, fails: Vec<u64>) -> Result<MemFiles, AllocError> {
     Ok(files)
 }
 
+/// Files in memory that hold the study and tape of two clients and a schedule, of whose calls these fail.
+fn two_clients(alloc: Global, fails: Vec<u64>) -> Result<MemFiles, AllocError> {
+    let mut files = MemFiles::new(alloc, fails);
+    if files.set("study", SHARED_STUDY).is_err()
+        || files.set("tape", SHARED_TAPE).is_err()
+        || files.set("schedule", SCHEDULE).is_err()
+    {
+        return Err(AllocError);
+    }
+    Ok(files)
+}
+
 /// The words of a fold of the study and the tape.
 fn fold_words(alloc: Global) -> Result<Vec<String>, AllocError> {
     let mut words = Vec::new(alloc);
@@ -51,16 +76,36 @@ fn fold_words(alloc: Global) -> Result<Vec<String>, AllocError> {
     Ok(words)
 }
 
-/// The number of a fold's status, where these calls of the files fail and a sink has so much room, and what the sink holds.
-fn fold_of(alloc: Global, fails: Vec<u64>, room: u64) -> Result<(u8, Vec<u8>), AllocError> {
-    let mut files = two_groups(alloc, fails)?;
+/// The number of the words' status over these files and a sink with so much room, and what the sink holds.
+fn answer(
+    alloc: Global,
+    words: &[String],
+    mut files: MemFiles,
+    room: u64,
+) -> Result<(u8, Vec<u8>), AllocError> {
     let Ok(mut sink) = MemSink::new(alloc, room, Vec::new(alloc)) else {
         return Err(AllocError);
     };
-    let words = fold_words(alloc)?;
     let keepers = no_checkpoints(alloc)?;
-    let (status, _) = melissa(alloc, words.as_slice(), &mut files, &mut sink, keepers);
+    let (status, _) = melissa(alloc, words, &mut files, &mut sink, keepers);
     Ok((status.number(), Vec::from_slice(alloc, sink.bytes())?))
+}
+
+/// The same of a fold of two groups, where these calls of the files fail.
+fn fold_of(alloc: Global, fails: Vec<u64>, room: u64) -> Result<(u8, Vec<u8>), AllocError> {
+    let words = fold_words(alloc)?;
+    answer(alloc, words.as_slice(), two_groups(alloc, fails)?, room)
+}
+
+/// The same of a fold of two clients under the schedule.
+fn scheduled_fold_of(
+    alloc: Global,
+    fails: Vec<u64>,
+    room: u64,
+) -> Result<(u8, Vec<u8>), AllocError> {
+    let mut words = fold_words(alloc)?;
+    words.push(String::from_str(alloc, "schedule")?)?;
+    answer(alloc, words.as_slice(), two_clients(alloc, fails)?, room)
 }
 
 #[test]
@@ -82,6 +127,16 @@ fn failed_loads_are_told(rt: HostRuntime) {
         let (number, bytes) = fold_of(alloc, fails, 1000).expect(&rt, "memory");
         assert!(rt; number == 5 && bytes.is_empty(), "{call}");
     }
+}
+
+#[test]
+fn a_failed_load_of_the_schedule_is_told(rt: HostRuntime) {
+    let alloc = rt.alloc();
+    let (number, bytes) = scheduled_fold_of(alloc, Vec::new(alloc), 1000).expect(&rt, "memory");
+    assert!(rt; number == 0 && !bytes.is_empty());
+    let fails = vec![in alloc; 2u64].expect(&rt, "memory");
+    let (number, bytes) = scheduled_fold_of(alloc, fails, 1000).expect(&rt, "memory");
+    assert!(rt; number == 5 && bytes.is_empty());
 }
 
 #[test]

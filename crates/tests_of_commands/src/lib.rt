@@ -1,4 +1,4 @@
-//! Designs, decisions, results and commands over files, a sink and keepers in memory.
+//! Designs, trials, decisions, results and commands over files, a sink and keepers in memory.
 #![tactic(auto)]
 
 #[cfg(test)]
@@ -9,3 +9,5 @@ mod design;
 mod launch;
 #[cfg(test)]
 mod result;
+#[cfg(test)]
+mod trial;

@@ -1,6 +1,21 @@
--- What a watch and a design answer, over keepers that aren't called.
+-- What each command answers; a watch and a design over keepers that aren't called.
 use Rattle.mls_book.specs.Keepers.{keepers_seen}
 use Rattle.mls_cli.proofs.commands.carry_out.Goals as goal
+
+pub returns-in-Fold-clause-carried : goal.returns-in-Fold-clause-carried
+returns-in-Fold-clause-carried g c =
+    let own = rw (c.as_str.ensures, c.as_str-in-Fold.ensures) at c.run_fold.ensures.carried in
+    rw (c.in-Fold.is) own
+
+pub returns-in-Bins-clause-carried : goal.returns-in-Bins-clause-carried
+returns-in-Bins-clause-carried g c =
+    let own = rw (c.as_str-in-Bins.ensures, c.as_str-in-Bins-2.ensures) at c.run_bins.ensures.carried in
+    rw (c.in-Bins.is) own
+
+pub returns-in-Trial-clause-carried : goal.returns-in-Trial-clause-carried
+returns-in-Trial-clause-carried g c =
+    let own = rw (c.as_str-in-Trial.ensures) at c.run_trial.ensures.carried in
+    rw (c.in-Trial.is) own
 
 pub returns-in-Watch-clause-carried : goal.returns-in-Watch-clause-carried
 returns-in-Watch-clause-carried g c =

@@ -14,7 +14,7 @@ returns-in-Ok-clause-carried g c = λ keepers.
 pub returns-in-Err-clause-carried : goal.returns-in-Err-clause-carried
 unfolding right_design
 returns-in-Err-clause-carried g c = λ keepers.
-    rw (c.into.ensures) (carried_refused (λ s. design_text s) _ _ (λ held. None) _ _ _ keepers c.in-Err.refusal (λ held is. is) (loads_refused (λ s. s) (λ s. design_text s) _ (λ held s. Ok (design_text s)) _ _ _ c.in-Err.ensures))
+    rw (c.into.ensures) (carried_refused None (λ s. design_text s) _ _ (λ held. None) _ _ _ keepers c.in-Err.refusal (λ held is. is) (loads_refused (λ s. s) (λ s. design_text s) _ (λ held s. Ok (design_text s)) _ _ _ c.in-Err.ensures))
 
 pub returns-in-Err-clause-no_usage : goal.returns-in-Err-clause-no_usage
 returns-in-Err-clause-no_usage g c = rw (c.into.ensures) (no_usage c.in-Err.refusal)
