@@ -1,13 +1,14 @@
 #!/usr/bin/env python3
 """Times the proved program on a large tape: bench/fold.py [--cells N] [--steps N] [--groups N] [--parameters N]
-[--ranks N] [--clients N] [--all]
+[--ranks N] [--clients N] [--all] [--bins]
 
 Makes a study and a tape with one client lane for each rank and client that share cells (random samples from a fixed
 seed) in a folder of its own, folds it three times with the program that `rt ci` leaves, output to nowhere, and prints
 for each run the seconds, those of the processor, the nanoseconds per cell, step and group, and the peak memory beside
 the tape's size. Then it folds it three times over an output that is full: the program ends at its first write, when all
 is read and added. The difference of the least seconds is what the text takes. With `--all` the study shows all
-statistics and has three thresholds; without, power alone. `rt ci` first.
+statistics and has three thresholds; without, power alone. With `--bins` it is folded over histograms and the bins text
+is written. `rt ci` first.
 """
 import argparse
 import os
@@ -23,6 +24,7 @@ def arguments():
     for name, number in [("cells", 100_000), ("steps", 1), ("groups", 200), ("parameters", 5), ("ranks", 1), ("clients", 1)]:
         parser.add_argument("--" + name, type=int, default=number)
     parser.add_argument("--all", action="store_true")
+    parser.add_argument("--bins", action="store_const", dest="command", const="bins", default="fold")
     return parser.parse_args()
 
 
@@ -69,18 +71,19 @@ def main():
         write_tape(tape, options)
         print(f"tape {os.path.getsize(tape) / 1e6:.1f} MB, {options}")
         events = options.cells * options.steps * options.groups
-        whole = [run("fold", study, tape) for _ in range(3)]
+        whole = [run(options.command, study, tape) for _ in range(3)]
         for seconds, user, peak in whole:
             print(f"{seconds:.3f} s, {user:.3f} s of the processor, {seconds * 1e9 / events:.1f} ns per cell, step and group, peak {peak / 1e6:.1f} MB")
-        added = [run("fold", study, tape, output="/dev/full", wanted=6) for _ in range(3)]
+        added = [run(options.command, study, tape, output="/dev/full", wanted=6) for _ in range(3)]
         for seconds, user, _ in added:
             print(f"without the text: {seconds:.3f} s, {user:.3f} s of the processor, {seconds * 1e9 / events:.1f} ns per cell, step and group")
         text = os.path.join(folder, "text")
-        run("fold", study, tape, output=text)
+        run(options.command, study, tape, output=text)
         size = os.path.getsize(text) / 1e6
         rest = min(run[0] for run in whole) - min(run[0] for run in added)
         if size >= 1:
             print(f"the text: {size:.1f} MB in {rest:.3f} s, {size / rest:.0f} MB/s")
 
 
-main()
+if __name__ == "__main__":
+    main()

@@ -1,22 +1,32 @@
 #!/usr/bin/env python3
-"""Times the checkpoint of a rank of 100,000 cells, five parameters and three thresholds: bench/save.py
+"""Times the checkpoint of a rank of 100,000 cells, five parameters and three thresholds: bench/save.py [ROUNDS]
 
 Makes a program in a folder of its own, proved and built by `rt run` from copies of the crates: a rank takes three pieces,
-and its checkpoint of 25.6 MB is made and recovered 40 times each. Beside it a plain Rust program copies as many bytes
-into new memory, 40 times. Prints the milliseconds of each and the megabytes a second, least and greatest of five runs,
-and the peak memory.
+and its checkpoint of 25.6 MB is made and recovered 40 times each. A book takes the same pieces, and then 40 saves into a
+keeper in memory, or 4 into the checkpoint store's files, each with its syncs. Beside it a plain Rust program copies as
+many bytes into new memory, 40 times, and writes as many into a new file with one sync, 4 times. Prints the milliseconds
+of each and the megabytes a second, least and greatest of five rounds, and the peak memory.
+
+Then it folds 1,000,000 pieces of one cell without a save, with the program that `rt ci` leaves, and in turn with that of
+an earlier build where MELISSA_BEFORE names it.
 """
+import argparse
 import os
 import shutil
 import subprocess
+import sys
 import tempfile
 import time
 
+import timing
+from fold import write_study, write_tape
+
 HERE = os.path.dirname(os.path.abspath(__file__))
 ROOT = os.path.join(HERE, "..")
-CRATES = ["mls_model", "mls_laws", "mls_base", "mls_frame", "mls_ckpt", "mls_power", "mls_cov", "mls_field", "mls_ledger", "mls_assembly", "mls_rank"]
+LOWER = ["mls_model", "mls_laws", "mls_base", "mls_text", "mls_frame", "mls_ckpt", "mls_power", "mls_cov", "mls_field"]
+CRATES = LOWER + ["mls_ledger", "mls_assembly", "mls_rank", "mls_tape", "mls_book", "mls_slot"]
 NAME = "save_and_recover"
-TIMES = 40
+TIMES, STORES = 40, 4
 SIZE = 25_600_000
 
 MAIN = """//! Saves and recovers a rank.
@@ -34,20 +44,28 @@ fn main(rt: HostRuntime) -> ExitCode {
 }
 """
 
-TIMING = """//! How long a checkpoint takes. One word or none makes checkpoints, two recover them, three do neither.
+TIMING = """//! How long a checkpoint takes. One word (the program's name) makes checkpoints, two recover them, three do neither. Of
+//! a book four words save into memory, five into files, six not at all.
 
 ghost use Rattle.std.specs.Prelude.{◌≡◌, ◌+◌, ◌<◌, ◌≤◌};
 ghost use Rattle.mls_model.specs.Outcomes.{total_count};
 ghost use Rattle.mls_rank.specs.Cores.{counts_of};
 
 use mls_base::faults::NoMemory;
+use mls_base::memory::MemKeeper;
 use mls_base::numbers::Numbers;
+use mls_base::outside::Keeper;
 use mls_base::shape::Shape;
+use mls_book::Book;
 use mls_field::field::Field;
 use mls_frame::{Seen, view};
 use mls_rank::{LaneKind, RankCore};
+use mls_slot::{FileDisk, SlotKeeper};
+use mls_tape::{Lanes, Wire};
 use std::alloc::Global;
 use std::env;
+
+const SAVE: [u8; 5] = [0, 0, 0, 1, 4];
 
 const NUMBERS: Numbers = Numbers {
     cells: 100_000,
@@ -118,6 +136,61 @@ fn recovers(alloc: Global, shape: &Shape, bytes: &[u8], times: u32) -> bool
     all
 }
 
+fn offer<K: Keeper + Drop>(
+    alloc: Global,
+    book: &mut Book<Wire, Field, K>,
+    lane: u32,
+    number: u64,
+    bytes: &[u8],
+) -> bool {
+    let Seen::Whole { frame, .. } = view(bytes) else {
+        return false;
+    };
+    let wire = *book.lanes();
+    if lane >= wire.lanes() {
+        return false;
+    }
+    let kind = match lane {
+        0 => LaneKind::Client,
+        _ => LaneKind::Control,
+    };
+    let event = wire.decoded(lane, number, kind, frame);
+    book.offer(alloc, &event).is_ok()
+}
+
+fn book_saves<K: Keeper + Drop>(alloc: Global, shape: &Shape, keeper: K, times: u64) -> Result<bool, NoMemory>
+    requires { 0 < shape.now.ranks }
+{
+    let Ok(mut book) = Book::<Wire, Field, K>::new(alloc, Wire::new(2), shape, 0, keeper) else {
+        return Err(NoMemory);
+    };
+    let mut all = true;
+    for group in 0..3_u8 {
+        let bytes = piece(alloc, group)?;
+        all = offer(alloc, &mut book, 0, group as u64, bytes.as_slice()) && all;
+    }
+    for number in 0..times {
+        all = offer(alloc, &mut book, 1, number, &SAVE) && all;
+    }
+    Ok(all)
+}
+
+fn rank_saves(alloc: Global, shape: &Shape, words: u32) -> Result<bool, NoMemory>
+    requires { 0 < shape.now.ranks }
+{
+    let core = fed(alloc, shape)?;
+    let bytes = core.save_bytes(alloc)?;
+    if core.counts().accepted != 3 || bytes.len() < 20_000_000 {
+        return Err(NoMemory);
+    }
+    let good = match words {
+        1 => saves(alloc, &core, 40) == bytes.len(),
+        2 => recovers(alloc, shape, bytes.as_slice(), 40),
+        _ => true,
+    };
+    Ok(good)
+}
+
 pub fn run(rt: &HostRuntime) -> Result<(), NoMemory> {
     let alloc = rt.alloc();
     let mut words = 0u32;
@@ -130,15 +203,11 @@ pub fn run(rt: &HostRuntime) -> Result<(), NoMemory> {
         return Err(NoMemory);
     };
     shape.valid();
-    let core = fed(alloc, &shape)?;
-    let bytes = core.save_bytes(alloc)?;
-    if core.counts().accepted != 3 || bytes.len() < 20_000_000 {
-        return Err(NoMemory);
-    }
     let good = match words {
-        1 => saves(alloc, &core, 40) == bytes.len(),
-        2 => recovers(alloc, &shape, bytes.as_slice(), 40),
-        _ => true,
+        4 => book_saves(alloc, &shape, MemKeeper::new(alloc, Vec::new(alloc)), 40)?,
+        5 => book_saves(alloc, &shape, SlotKeeper::new(FileDisk::new(rt, 0)), 4)?,
+        6 => book_saves(alloc, &shape, MemKeeper::new(alloc, Vec::new(alloc)), 0)?,
+        _ => rank_saves(alloc, &shape, words)?,
     };
     if good { Ok(()) } else { Err(NoMemory) }
 }
@@ -163,7 +232,7 @@ def build_proved(folder):
     with open(os.path.join(ROOT, "crates.txt")) as file:
         lines = [line for line in file if line.split(":")[0] in CRATES]
     with open(os.path.join(folder, "crates.txt"), "w") as file:
-        file.writelines(lines + [f"{NAME}: mls_model mls_base mls_frame mls_field mls_rank\n"])
+        file.writelines(lines + [f"{NAME}: mls_model mls_base mls_frame mls_tape mls_field mls_rank mls_book mls_slot\n"])
     source = os.path.join(folder, "crates", NAME, "src")
     os.makedirs(source)
     for name, text in [("main.rt", MAIN), ("timing.rt", TIMING)]:
@@ -182,30 +251,69 @@ def build_copy(folder):
     return program
 
 
-def run(*words):
+def run(folder, *words):
     before = time.perf_counter()
-    child = subprocess.Popen(words, stdout=subprocess.DEVNULL, stderr=subprocess.DEVNULL)
+    child = subprocess.Popen(words, cwd=folder, stdout=subprocess.DEVNULL, stderr=subprocess.DEVNULL)
     _, status, usage = os.wait4(child.pid, 0)
     if status != 0:
         raise SystemExit(f"{words[0]} ended with status {status}")
     return time.perf_counter() - before, usage.ru_maxrss * 1024 / 1e6
 
 
-def tell(name, many, few):
-    each = [(seconds - min(few)[0]) / TIMES for seconds, _ in many]
+def write_files(folder, times):
+    """The seconds of so many files of as many bytes, each with one sync, and no memory that is told of."""
+    sent = bytes(SIZE)
+    before = time.perf_counter()
+    for number in range(times):
+        with open(os.path.join(folder, f"file-{number}"), "wb", buffering=0) as file:
+            file.write(sent)
+            os.fsync(file.fileno())
+    return time.perf_counter() - before, 0
+
+
+def tell(name, many, few, times):
+    each = [(seconds - min(few)[0]) / times for seconds, _ in many]
     peak = max(memory for _, memory in many)
     rates = " to ".join(f"{SIZE / 1e6 / seconds:.0f}" for seconds in (max(each), min(each)))
-    print(f"{name}: {min(each) * 1e3:.1f} to {max(each) * 1e3:.1f} ms, {rates} MB/s, peak memory {peak:.1f} MB")
+    memory = f", peak memory {peak:.1f} MB" if peak else ""
+    print(f"{name}: {min(each) * 1e3:.1f} to {max(each) * 1e3:.1f} ms, {rates} MB/s{memory}")
+
+
+def one_round(folder, program, copy):
+    words = [run(folder, program, *"x" * number) for number in range(6)]
+    return [*words, run(folder, copy, "x"), run(folder, copy), write_files(folder, STORES)]
+
+
+def tell_checkpoints(folder, rounds):
+    program, copy = build_proved(folder), build_copy(folder)
+    saves, recovers, none, memory, files, book, copies, nothing, written = zip(*(one_round(folder, program, copy) for _ in range(rounds)))
+    tell("save_bytes", saves, none, TIMES)
+    tell("recover", recovers, none, TIMES)
+    tell("a save into a keeper in memory", memory, book, TIMES)
+    tell("a save into the store's files, with its syncs", files, book, STORES)
+    tell("a copy into new memory", copies, nothing, TIMES)
+    tell("a new file with one sync", written, [(0, 0)], STORES)
+
+
+def tell_pieces(folder, rounds):
+    """The seconds of folds of small pieces over an output that is full: all is read and added, and no text is made."""
+    options = argparse.Namespace(cells=1, steps=16, groups=62_500, parameters=1, ranks=1, clients=1, all=False)
+    study, tape = os.path.join(folder, "study.toml"), os.path.join(folder, "tape")
+    write_study(study, options)
+    write_tape(tape, options)
+    before = os.environ.get("MELISSA_BEFORE")
+    programs = [("this build", timing.PROGRAM)] + ([("the earlier build", before)] if before else [])
+    times = [[timing.run("fold", study, tape, output="/dev/full", wanted=6, program=path)[0] for _, path in programs] for _ in range(rounds)]
+    for (name, _), seconds in zip(programs, zip(*times)):
+        print(f"1,000,000 pieces of one cell, {name}: {min(seconds):.3f} to {max(seconds):.3f} s")
 
 
 def main():
+    rounds = int(sys.argv[1]) if len(sys.argv) > 1 else 5
     with tempfile.TemporaryDirectory() as folder:
-        program, copy = build_proved(folder), build_copy(folder)
-        rounds = [(run(program), run(program, "x"), run(program, "x", "x"), run(copy, "x"), run(copy)) for _ in range(5)]
-        saves, recovers, none, copies, nothing = zip(*rounds)
-        tell("save_bytes", saves, none)
-        tell("recover", recovers, none)
-        tell("a copy into new memory", copies, nothing)
+        tell_checkpoints(folder, rounds)
+        tell_pieces(folder, rounds)
 
 
-main()
+if __name__ == "__main__":
+    main()
