@@ -5,8 +5,12 @@ ghost use Rattle.std.specs.Prelude.{◌≡◌, ◌≤◌, None, false, vec_len, 
 use crate::faults::{Failed, LoadFault, StoreFault, fail};
 use crate::outside::{Files, Sink};
 use std::alloc::Global;
+use std::fs::OpenFile;
 use std::io::{ErrorKind, Read, Write};
 use std::{fs, io, rt};
+
+/// How many bytes of a file one read asks for.
+const STRIDE: usize = 65_536;
 
 /// A sink over the runtime's standard output.
 #[derive(Drop)]
@@ -110,23 +114,44 @@ fn load_file<R: rt::Files>(
     ensures { IfOk result (λ bytes. vec_len bytes ≤ max) }
 {
     match fs::open(rt, name) {
-        Ok(mut file) => read_whole(&mut file, alloc, max),
+        Ok(mut file) => {
+            let told = told_length(&file).min(max);
+            read_whole(&mut file, alloc, told, max)
+        }
         Err(_) => Err(LoadFault::Failed),
     }
 }
 
-/// All that is left to read, at most `max` bytes.
-fn read_whole<F: Read>(file: &mut F, alloc: Global, max: u64) -> Result<Vec<u8>, LoadFault>
+/// The length that the system tells of a file, and 0 where it tells none. The file may hold more or less.
+fn told_length<F: OpenFile>(file: &F) -> u64 {
+    match file.metadata() {
+        Ok(metadata) => metadata.len(),
+        Err(_) => 0,
+    }
+}
+
+/// All that is left to read, at most `max` bytes. Room for `told` bytes is taken at once, so that a long list
+/// isn't moved while it grows, and each read writes straight behind the bytes that came before.
+fn read_whole<F: Read>(
+    file: &mut F,
+    alloc: Global,
+    told: u64,
+    max: u64,
+) -> Result<Vec<u8>, LoadFault>
     ensures { IfOk result (λ bytes. vec_len bytes ≤ max) }
 {
-    let mut bytes = Vec::new(alloc);
-    let mut buffer = [0u8; 16384];
+    let mut bytes = Vec::with_capacity(alloc, (told as usize).saturating_add(STRIDE))?;
     for _ in 0..u64::MAX {
-        match file.read(&mut buffer) {
-            Ok(0) => return Ok(bytes),
-            Ok(n) if n as u64 > max - bytes.len() as u64 => return Err(LoadFault::TooLong),
-            Ok(n) => bytes.extend_from_slice(buffer.split_at(n).0)?,
-            Err(error) if error.kind() == ErrorKind::Interrupted => {}
+        let len = bytes.len();
+        bytes.resize(len.saturating_add(STRIDE), 0)?;
+        match file.read(bytes.split_at_mut(len).1) {
+            Ok(0) => {
+                bytes.truncate(len);
+                return Ok(bytes);
+            }
+            Ok(n) if n as u64 > max - len as u64 => return Err(LoadFault::TooLong),
+            Ok(n) => bytes.truncate(len + n),
+            Err(error) if error.kind() == ErrorKind::Interrupted => bytes.truncate(len),
             Err(_) => return Err(LoadFault::Failed),
         }
     }
