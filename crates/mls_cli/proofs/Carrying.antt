@@ -12,7 +12,7 @@ use Rattle.mls_cli.specs.declared.refusal.Refusal.{Refusal}
 use Rattle.mls_cli.specs.declared.refusal.Refusal.TheVariants as refusal
 use Rattle.mls_cli.specs.declared.words.NamePair.{NamePair}
 use Rattle.mls_cli.specs.Fold.{Folded}
-use Rattle.mls_cli.specs.Answers.{Answers, Carries, FilesAnswer, GroupsAnswer, IsOfCores, IsSureFold, KeepersAnswer, MaybeSaved, SaveFails, SavesCounted, TellsRight, out_status}
+use Rattle.mls_cli.specs.Answers.{Answers, Carries, FilesAnswer, GroupsAnswer, IsOfCores, IsSureFold, KeepersAnswer, MaybeSaved, SaveFails, SavesCounted, out_status}
 use Rattle.mls_cli.specs.Refusals.{FileState, IsRefused, Counts, Leaves, Loads, status_of}
 
 refused_answers : (sound : Bool) (unsaved sure : Type 0) (r : Refusal) (right : Result (List ℕ) Status) (old : SinkState) → IsRefused sound r right → Answers sound unsaved sure right old old (status_of r)

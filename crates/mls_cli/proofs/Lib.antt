@@ -3,7 +3,6 @@ pub mod InputSteps
 pub mod Carrying
 pub mod Folded
 pub mod SaveSteps
-pub mod Making
 pub mod Wording
 pub mod Gathered
 mod PlainLines

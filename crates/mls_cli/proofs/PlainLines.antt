@@ -17,7 +17,7 @@ use Rattle.mls_cli.specs.declared.words.Words.{Words}
 use Rattle.mls_cli.specs.declared.words.Words.TheVariants as words
 use Rattle.mls_cli.specs.Words.{words_of}
 use Rattle.mls_cli.specs.declared.words.NamePair.{NamePair}
-use Rattle.mls_cli.specs.Fold.{Ending, results, Folded, asked_text, asked_fold, ending_text, fold_over, folded_text, folded_histories, right_fold, right_inputs, right_lanes, right_orders}
+use Rattle.mls_cli.specs.Fold.{Ending, results, Folded, asked_text, asked_fold, ending_text, fold_over, folded_text, right_fold, right_inputs, right_lanes, right_orders}
 use Rattle.mls_cli.specs.Inputs.{◌>>=◌, right_study}
 use Rattle.mls_cli.specs.Ideal.{command_or_usage, command_fold, right_command, ideal, fold_of}
 use Rattle.mls_cli.specs.Answers.{Answers, Carries, IsSureFold, SaveFails}

@@ -13,7 +13,7 @@ use Rattle.mls_cli.specs.Answers.{Carries, HasAllGroups, SaveFailed}
 use Rattle.mls_cli.specs.Fold.{Folded, asked_text, asked_fold}
 use Rattle.mls_cli.specs.Trial.{folded_tape, folded_schedule}
 use Rattle.mls_cli.specs.Refusals.{FileState, Loads}
-use Rattle.mls_cli.specs.Saving.{IsOfUnsound, SavedPair, SavedTapeAtMost, SavesNamed, SavesPair, StoppedSaving, save_status}
+use Rattle.mls_cli.specs.Saving.{SavedPair, SavedTapeAtMost, SavesNamed, SavesPair, StoppedSaving, save_status}
 use Rattle.mls_cli.proofs.Folded.{HasSaved, told_inputs}
 
 -- both were saved
@@ -78,10 +78,6 @@ schedule_after names tape_name schedule_name tape schedule old between new old_s
     (subst (λ (name : List ℕ). Saved name tape old between) same_tape first) stays same
     (subst (λ (name : List ℕ). OnOk result (Saved name schedule between new)) same_schedule second)
     (subst (λ (name : List ℕ). IfErr result (λ fault. SaveLeaves fault name between new)) same_schedule leaves) sound counts
-
--- the text of the schedule was not made
-pub text_unmade : {A : Type 0} (names : NamePair) (tape schedule : List ℕ) (files : FileState) → SavesPair {A = A} names tape schedule (Err store.Memory) files files
-text_unmade names tape schedule files = record { leaves = inl refl; counts = refl; unsound = tt }
 
 -- all was saved that is to be
 pub saved_named : {A : Type 0} (saved : Option NamePair) (f : Folded) (old new : FileState) (done : A) → SavesNamed saved (folded_tape f) (folded_schedule f) (Ok done) old new → HasSaved saved f old new

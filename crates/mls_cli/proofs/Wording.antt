@@ -1,5 +1,5 @@
 -- What words ask for, from the command that they are.
-use Rattle.std.proofs.Common.{◌≡◌, ℕ, List, Option, Some, None, Result, refl, sym, subst}
+use Rattle.std.proofs.Common.{◌≡◌, ℕ, List, Option, Some, None, refl, sym, subst}
 use Rattle.std.specs.Option.{option_and_then}
 use Rattle.mls_text.specs.Writing.{SinkState}
 use Rattle.mls_book.specs.Keepers.{KeeperState}

@@ -19,7 +19,7 @@ use mls_design::laws::trials_accept_all_groups;
 use mls_design::{Made, MakeFault, make_tape};
 use mls_result::Status;
 use mls_study::Study;
-use mls_trial::fold_trial;
+use mls_trial::{complete_schedules_are_legal, fold_trial};
 use std::alloc::Global;
 
 /// What a trial begins with: a study, and the tape and the schedule that were made of it.
@@ -42,6 +42,7 @@ fn made_of(alloc: Global, study: &Study, number: u64) -> Result<Made, Refusal>
 {
     study.valid();
     trials_accept_all_groups();
+    complete_schedules_are_legal();
     match make_tape(alloc, study, number) {
         Ok(made) => return Ok(made),
         Err(MakeFault::TooLarge) => return Err(Refusal::TooLarge),

@@ -1,5 +1,4 @@
 -- The study, and then what was made of it.
-use Rattle.std.proofs.Common.{refl}
 use Rattle.std.proofs.lemmas.Result.{err_from_is_err_and}
 use Rattle.mls_cli.specs.Trial.{content_trial, right_trial}
 use Rattle.mls_cli.proofs.InputSteps.{loads_nothing, loads_refused, loads_then}

@@ -1,7 +1,6 @@
 -- What was made is what is right of the study and the number.
-use Rattle.std.proofs.Common.{refl, sym}
+use Rattle.std.proofs.Common.{refl}
 use Rattle.mls_design.specs.Trial.{trial_bytes}
-use Rattle.mls_cli.proofs.Making.{complete_legal}
 use Rattle.mls_cli.proofs.trial.made_of.Goals as goal
 
 pub returns-in-Ok-clause-right : goal.returns-in-Ok-clause-right
@@ -12,7 +11,7 @@ unfolding trial_bytes
 returns-in-Ok-clause-tape c = rw (c.in-Ok.ensures.bytes, c.in-Ok.ensures.lanes) refl
 
 pub returns-in-Ok-clause-legal : goal.returns-in-Ok-clause-legal
-returns-in-Ok-clause-legal c = complete_legal _ _ _ c.in-Ok.ensures.complete
+returns-in-Ok-clause-legal c = c.complete_schedules_are_legal.ensures _ _ _ c.in-Ok.ensures.complete
 
 pub returns-in-Ok-clause-groups : goal.returns-in-Ok-clause-groups
 returns-in-Ok-clause-groups c = c.trials_accept_all_groups.ensures.line _ _ _ c.valid.ensures.sizes c.in-Ok.ensures.accepts
