@@ -27,9 +27,9 @@ some_put None value = refl
 some_put (Some v) value = refl
 
 -- an event that is taken leaves whether the keeper tells
-tells_on : {A : Type 0} (saves : Bool) (old new : Option A) (value : A) → (saves ≡ true → new ≡ replaced old value) → (saves ≡ false → new ≡ old) → is_some new ≡ is_some old
-tells_on true old new value put held = ap is_some (put refl) ∙ some_put old value
-tells_on false old new value put held = ap is_some (held refl)
+tells_as_before : {A : Type 0} (saves : Bool) (old new : Option A) (value : A) → (saves ≡ true → new ≡ replaced old value) → (saves ≡ false → new ≡ old) → is_some new ≡ is_some old
+tells_as_before true old new value put held = ap is_some (put refl) ∙ some_put old value
+tells_as_before false old new value put held = ap is_some (held refl)
 
 -- what is told was told before
 may_tell : {A : Type 0} (old new : Option A) → MayCease old new → IsSome new → IsSome old
@@ -66,6 +66,7 @@ begins_with {T} {F} {K} {U} book none unsaved = record {
   untold = λ some. some;
   kept = λ _. same_may (U.held book.keeper);
   sound = λ sound. sound;
+  tells_on = λ _ some. some;
   faultless = λ _. refl;
   blameless = λ _ c. let clash : None ≡ Some KeeperFault = sym none ∙ c in absurd cc;
 }
@@ -74,7 +75,7 @@ pub taken_on : {T F K : Type 0} {R : Ghosts F} {U : keeper.Ghosts K} (start : Ke
 taken_on {T} {F} {K} {R} {U} start old new event place o t b =
     let e = lane_event event in
     let faults = t.store.faults in
-    let same : is_some (U.held new.keeper) ≡ is_some (U.held old.keeper) = tells_on (is_save e) (U.held old.keeper) (U.held new.keeper) (Some (Rattle.mls_book.specs.Cores.parts_bytes R new.core)) t.store.put t.store.held in
+    let same : is_some (U.held new.keeper) ≡ is_some (U.held old.keeper) = tells_as_before (is_save e) (U.held old.keeper) (U.held new.keeper) (Some (Rattle.mls_book.specs.Cores.parts_bytes R new.core)) t.store.put t.store.held in
     record {
       counted = let from = b.counted in omega (arith, faults, from);
       caused = λ c. subst (λ (n : ℕ). Rose start.faults n) (sym faults) (b.caused (sym t.fault ∙ c));
@@ -85,6 +86,7 @@ taken_on {T} {F} {K} {R} {U} start old new event place o t b =
           let parts = or_parts old.saved (is_save e) (sym t.saved ∙ unsaved) in
           subst (λ held. MayCease start.held held) (sym (t.store.held parts.1)) (b.kept parts.0);
       sound = λ sound. t.same.sound (b.sound sound);
+      tells_on = λ sound some. same ∙ b.tells_on sound some;
       faultless = λ sound. faults ∙ b.faultless sound;
       blameless = λ sound c. b.blameless sound (sym t.fault ∙ c);
     }
@@ -101,6 +103,7 @@ refused_on {T} {F} {K} {R} {U} start old new event KeeperFault r b =
       untold = λ some. b.untold (may_tell (U.held old.keeper) (U.held new.keeper) r.leaves some);
       kept = λ unsaved. may_more start.held (U.held old.keeper) (U.held new.keeper) (b.kept (sym r.saved ∙ unsaved)) r.leaves;
       sound = λ sound. absurd (unsound sound);
+      tells_on = λ sound _. absurd (unsound sound);
       faultless = λ sound. absurd (unsound sound);
       blameless = λ sound _. unsound sound;
     }
@@ -117,6 +120,7 @@ refused_on {T} {F} {K} {R} {U} start old new event (CheckpointBad at why) r b =
       untold = λ some. b.untold (sym same ∙ some);
       kept = λ unsaved. subst (λ h. MayCease start.held h) (sym held) (b.kept (sym r.saved ∙ unsaved));
       sound = λ sound. r.same.sound (b.sound sound);
+      tells_on = λ sound some. same ∙ b.tells_on sound some;
       faultless = λ sound. faults ∙ b.faultless sound;
       blameless = λ sound c. let clash : Some (CheckpointBad at why) ≡ Some KeeperFault = sym noted ∙ c in absurd cc;
     }
@@ -133,6 +137,7 @@ refused_on {T} {F} {K} {R} {U} start old new event Memory r b =
       untold = λ some. b.untold (sym same ∙ some);
       kept = λ unsaved. subst (λ h. MayCease start.held h) (sym held) (b.kept (sym r.saved ∙ unsaved));
       sound = λ sound. r.same.sound (b.sound sound);
+      tells_on = λ sound some. same ∙ b.tells_on sound some;
       faultless = λ sound. faults ∙ b.faultless sound;
       blameless = λ sound c. b.blameless sound (sym noted ∙ c);
     }

@@ -11,7 +11,7 @@ use Rattle.mls_held.specs.declared.run.Run as run
 -- The keeper of a book, of which this was seen when the run began. Its count of faults never fell. A fault of the keeper is
 -- recorded only where that count rose. A keeper that told tells still, unless the count rose, and wherever no store fault is
 -- recorded; one that didn't tell doesn't. Where this run had no save, a keeper that tells holds what it held. A keeper that was
--- sound is sound, and none of its calls failed.
+-- sound is sound, none of its calls failed, and where it told it tells still.
 pub record HasBegun {T F K : Type 0} (U : keeper.Ghosts K) (start : KeeperState) (book : BookView T F K) : Type 0 where
   pub counted : start.faults ≤ U.faults book.keeper
   pub caused : book.fault ≡ Some KeeperFault → Rose start.faults (U.faults book.keeper)
@@ -20,6 +20,7 @@ pub record HasBegun {T F K : Type 0} (U : keeper.Ghosts K) (start : KeeperState)
   pub untold : IsSome (U.held book.keeper) → IsSome start.held
   pub kept : book.saved ≡ false → MayCease start.held (U.held book.keeper)
   pub sound : IsTrue start.sound → IsTrue (U.sound book.keeper)
+  pub tells_on : IsTrue start.sound → IsSome start.held → IsSome (U.held book.keeper)
   pub faultless : IsTrue start.sound → U.faults book.keeper ≡ start.faults
   pub blameless : IsTrue start.sound → book.fault ≡ Some KeeperFault → ⊥
 

@@ -19,7 +19,8 @@ use std::sync::Mutex;
 /// Its type keeps that the book's lanes and shape are those that the run names, and of its keeper: its count of faults
 /// isn't below the one at the run's beginning; a fault of the keeper is recorded only where that count rose; a keeper
 /// that told when the run began tells still, unless that count rose, and wherever no store fault is recorded; where this
-/// run had no save, a keeper that tells holds what it held when the run began; and a keeper that was sound is sound.
+/// run had no save, a keeper that tells holds what it held when the run began; and a keeper that was sound is sound, and
+/// tells still where it told.
 #[derive(Drop)]
 pub struct Held<T: Lanes, F: RowFold, K: Keeper + Drop, R: Run> {
     book: Book<T, F, K>,
