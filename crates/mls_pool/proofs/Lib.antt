@@ -1,0 +1,4 @@
+pub mod Elements
+pub mod Going
+pub mod Naming
+pub mod Pooling

@@ -1,0 +1,18 @@
+use Rattle.std.proofs.Common.{◌≡◌, List, length, sym, subst, ◌∙◌, arith}
+use Rattle.mls_pool.specs.Pools.{TapeBook}
+use Rattle.mls_pool.specs.Named.{AreSeated}
+use Rattle.mls_pool.proofs.Naming.{seated_more}
+use Rattle.mls_pool.proofs.seats.unseat.Goals as goal
+
+pub loop-rank-preserved : goal.loop-rank-preserved
+loop-rank-preserved g c =
+    let inv = c.loop-rank.invariant in
+    let books = c.loop-rank.books.items in
+    let count : length books ≡ c.loop-rank.rank = (let own = c.loop-rank.books.ok.0 in let len = inv.1 in omega (arith, own, len)) in
+    let more = seated_more {U = g.K.Keeper} {N = g.N.Run} books c.unseat_one-book.result c.loop-rank.rank inv.0 count c.unseat_one-book.ensures.named c.unseat_one-book.ensures.rank in
+    let len = inv.1 in
+    let lens = c.push_reserved.ensures.len in (
+      subst (λ (bs : List (TapeBook g.row.K.Denot)). AreSeated g.K.Keeper g.N.Run bs) (sym c.push_reserved.ensures.items) more,
+      omega (arith, lens, len),
+      c.push_reserved.ensures.capacity ∙ inv.2,
+    )
