@@ -26,3 +26,6 @@ pub mod FieldTaken
 pub mod TextSizes
 pub mod ReadPieces
 pub mod FourAtATime
+pub mod FourCopied
+pub mod PutAt
+pub mod CopiedCells

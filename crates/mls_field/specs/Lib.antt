@@ -18,3 +18,5 @@ pub mod PutBytes
 pub mod Answered
 pub mod Taken
 pub mod StoredCells
+pub mod Copied
+pub mod PutCells

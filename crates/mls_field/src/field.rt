@@ -8,10 +8,14 @@ use crate::cells::{
     read_numbers, read_sums,
 };
 use crate::columns::{add_to_ends, add_to_numbers, add_to_sums};
+use crate::copied::{
+    BLOCK, BLOCK_ENDS, BLOCK_NUMBERS, BLOCK_SUMS, Copies, add_waiting_to_ends,
+    add_waiting_to_numbers, add_waiting_to_sums, copy_ends, copy_numbers, copy_sums,
+};
 use crate::ends::clear_ends;
 use crate::fold::RowFold;
 use crate::gathered::gather;
-use crate::put::{put_ends, put_numbers, put_powers, put_products};
+use crate::put::{CELL_BYTES, put_cell};
 use crate::stored::take_planes;
 use mls_base::faults::NoMemory;
 use mls_base::rows::Rows;
@@ -32,6 +36,7 @@ use std::alloc::Global;
 /// Of each plane up to seven rows wait as samples. When an eighth comes, all are added together, so that the sums
 /// are read and written once for eight rows.
 /// A reader adds the rows that wait for a cell to the copy that it hands out.
+/// For a checkpoint 64 cells at a time are copied, with all that waits for them, column by column.
 ///
 /// Each kind of sums lies in a list of its own, plane after plane, each plane's in columns that are as long as the
 /// plane.
@@ -116,8 +121,9 @@ impl RowFold for Field {
 
     fn put(&self, out: &mut Put) -> Result<(), NoMemory> {
         out.reserve(self.part_size())?;
+        let mut copies = Copies::new();
         for step in 0..self.shape.planes() {
-            self.put_plane(step, out)?;
+            self.put_plane(step, &mut copies, out)?;
         }
         Ok(())
     }
@@ -196,6 +202,7 @@ impl Field {
     ghost use Rattle.mls_ckpt.specs.CellParts.{cell_text};
     ghost use Rattle.mls_field.specs.Spelled.{cells_of_plane, part_of_field};
     ghost use Rattle.mls_field.specs.PutBytes.{Grown};
+    ghost use Rattle.mls_field.specs.PutCells.{HoldSumsOf, HoldEndsOf, HoldNumbersOf, PutsCells};
     ghost use Rattle.mls_model.specs.SumsText.{height, variance_top_of, third_top_of};
 
     // Puts a row at each place of a plane with those that wait.
@@ -388,30 +395,150 @@ impl Field {
         numbers
     }
 
-    // Appends the sums of a cell, with the rows that wait for it.
-    fn put_cell(&self, step: u32, cell: u32, out: &mut Put) -> Result<(), NoMemory>
+    // Copies the sums of so many cells, from a place on, with the rows that wait for them.
+    fn copy_sums(&self, step: u32, from: usize, count: usize, sums: &mut [u64; BLOCK_SUMS])
         requires step_in { step < planes (shape_of self.now) }
-        requires cell_in { cell < width (block (shape_of self.now) (rank_of self.now)) }
-        ensures { OnOk result (Grown out.old out.new (cell_text (sums_at self.now step cell))) }
+        requires inside { from + count ≤ width (block (shape_of self.now) (rank_of self.now)) }
+        requires few { count ≤ 64 }
+        ensures { HoldSumsOf self.now step from count sums.new }
     {
         let parameters = self.shape.parameters();
-        let sums = self.whole_sums(step, cell);
-        let power = power_of(&sums, parameters, self.rows(step));
-        let ends = self.whole_ends(step, cell);
-        let numbers = self.whole_numbers(step, cell);
-        put_powers(out, &power)?;
-        put_ends(out, &ends)?;
-        put_numbers(out, &numbers, self.shape.thresholds() as usize)?;
-        put_products(out, &sums, 4 + 4 * parameters as usize)
+        let places = self.places as usize;
+        let size = 8 + 4 * parameters as usize;
+        let row = step as usize * size;
+        copy_sums(sums, self.sums.as_slice(), row, size, places, from, count);
+        add_waiting_to_sums(
+            sums,
+            count,
+            parameters,
+            self.samples.as_slice(),
+            self.first_sample(step),
+            places,
+            from,
+            self.waiting_rows(step),
+        );
+    }
+
+    // Copies their least and greatest samples.
+    fn copy_ends(&self, step: u32, from: usize, count: usize, ends: &mut [u16; BLOCK_ENDS])
+        requires step_in { step < planes (shape_of self.now) }
+        requires inside { from + count ≤ width (block (shape_of self.now) (rank_of self.now)) }
+        requires few { count ≤ 64 }
+        ensures { HoldEndsOf self.now step from count ends.new }
+    {
+        let places = self.places as usize;
+        let row = step as usize * EXTREMA_NUMBERS;
+        copy_ends(ends, self.ends.as_slice(), row, places, from, count);
+        add_waiting_to_ends(
+            ends,
+            count,
+            self.shape.parameters(),
+            self.samples.as_slice(),
+            self.first_sample(step),
+            places,
+            from,
+            self.waiting_rows(step),
+        );
+    }
+
+    // Copies their numbers above thresholds.
+    fn copy_numbers(&self, step: u32, from: usize, count: usize, numbers: &mut [u32; BLOCK_NUMBERS])
+        requires step_in { step < planes (shape_of self.now) }
+        requires inside { from + count ≤ width (block (shape_of self.now) (rank_of self.now)) }
+        requires few { count ≤ 64 }
+        ensures { HoldNumbersOf self.now step from count numbers.new }
+    {
+        let places = self.places as usize;
+        let size = self.shape.thresholds() as usize;
+        let row = step as usize * size;
+        copy_numbers(
+            numbers,
+            self.numbers.as_slice(),
+            row,
+            size,
+            places,
+            from,
+            count,
+        );
+        add_waiting_to_numbers(
+            numbers,
+            count,
+            &self.shape,
+            self.samples.as_slice(),
+            self.first_sample(step),
+            places,
+            from,
+            self.waiting_rows(step),
+        );
+    }
+
+    // Appends the sums of so many cells, from a place on, which were copied.
+    fn put_copied(
+        &self,
+        step: u32,
+        from: usize,
+        count: usize,
+        sums: &[u64; BLOCK_SUMS],
+        ends: &[u16; BLOCK_ENDS],
+        numbers: &[u32; BLOCK_NUMBERS],
+        bytes: &mut [u8; CELL_BYTES],
+        out: &mut Put,
+    ) -> Result<(), NoMemory>
+        requires step_in { step < planes (shape_of self.now) }
+        requires inside { from + count ≤ width (block (shape_of self.now) (rank_of self.now)) }
+        requires few { count ≤ 64 }
+        requires sums { HoldSumsOf self.now step from count sums.now }
+        requires ends { HoldEndsOf self.now step from count ends.now }
+        requires numbers { HoldNumbersOf self.now step from count numbers.now }
+        ensures { OnOk result (PutsCells self.now step from count out.old out.new) }
+    {
+        for place in 0..count {
+            let size = put_cell(bytes, &self.shape, sums, ends, numbers, place);
+            out.extend_from_slice(&bytes[..size])?;
+        }
+        Ok(())
+    }
+
+    // Appends the sums of so many cells, from a place on, with the rows that wait for them.
+    fn put_cells(
+        &self,
+        step: u32,
+        from: usize,
+        count: usize,
+        copies: &mut Copies,
+        out: &mut Put,
+    ) -> Result<(), NoMemory>
+        requires step_in { step < planes (shape_of self.now) }
+        requires inside { from + count ≤ width (block (shape_of self.now) (rank_of self.now)) }
+        requires few { count ≤ 64 }
+        ensures { OnOk result (PutsCells self.now step from count out.old out.new) }
+    {
+        self.copy_sums(step, from, count, &mut copies.sums);
+        self.copy_ends(step, from, count, &mut copies.ends);
+        self.copy_numbers(step, from, count, &mut copies.numbers);
+        self.put_copied(
+            step,
+            from,
+            count,
+            &copies.sums,
+            &copies.ends,
+            &copies.numbers,
+            &mut copies.bytes,
+            out,
+        )
     }
 
     // Appends the sums of the cells of a plane.
-    fn put_plane(&self, step: u32, out: &mut Put) -> Result<(), NoMemory>
+    fn put_plane(&self, step: u32, copies: &mut Copies, out: &mut Put) -> Result<(), NoMemory>
         requires { step < planes (shape_of self.now) }
         ensures { OnOk result (Grown out.old out.new (texts cell_text (cells_of_plane self.now step))) }
     {
-        for cell in 0..self.places {
-            self.put_cell(step, cell, out)?;
+        let places = self.places as usize;
+        let mut from = 0;
+        while from < places {
+            let count = BLOCK.min(places - from);
+            self.put_cells(step, from, count, copies, out)?;
+            from += count;
         }
         Ok(())
     }

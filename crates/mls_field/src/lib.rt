@@ -3,6 +3,7 @@
 
 mod cells;
 mod columns;
+mod copied;
 mod ends;
 pub mod field;
 pub mod fold;

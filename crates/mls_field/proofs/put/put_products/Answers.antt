@@ -1,7 +1,14 @@
-use Rattle.std.proofs.Common.{◌++◌, take, ap, ◌∙◌}
+use Rattle.std.proofs.Common.{◌+◌, ◌*◌, take, slice_index, arith}
 use Rattle.std.specs.Int.{w64}
-use Rattle.mls_field.proofs.Texts.{row_put, on_ok}
+use Rattle.mls_ckpt.specs.Reading.{text}
+use Rattle.mls_field.proofs.PutAt.{grown_to}
+use Rattle.mls_field.proofs.Texts.{below_put}
 use Rattle.mls_field.proofs.put.put_products.Goals as goal
 
-pub returns : goal.returns
-returns c = on_ok c.extend_from_slice.result (λ e. row_put w64 (take c.args.count c.args.sums.now) c.args.out.now c.extend_from_slice.new.self (e ∙ ap (λ bytes. c.args.out.now ++ bytes) c.write_u64_into.ensures)) c.extend_from_slice.ensures.ok
+pub loop-c-preserved : goal.loop-c-preserved
+loop-c-preserved c =
+    let d = c.loop-c.c in
+    let at = c.args.at in
+    let old = take (at + 8 * d) c.loop-c.bytes in
+    below_put (text w64) (λ e. slice_index c.args.sums.now (e * 64 + c.args.place)) d (take at c.args.bytes.now) old (take (at + 8 * (d + 1)) c.put_u64.new.bytes) c.loop-c.invariant
+    (grown_to old c.put_u64.new.bytes _ (at + 8 * d + 8) (at + 8 * (d + 1)) (omega arith) c.put_u64.ensures)

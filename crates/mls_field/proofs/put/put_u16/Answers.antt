@@ -1,0 +1,7 @@
+use Rattle.std.proofs.Common.{arith}
+use Rattle.std.specs.Int.{w16}
+use Rattle.mls_field.proofs.PutAt.{number_put_at}
+use Rattle.mls_field.proofs.put.put_u16.Goals as goal
+
+pub returns : goal.returns
+returns c = number_put_at w16 c.args.n c.args.at c.args.bytes.now c.write_u16.new.buf _ _ (omega (arith, c.requires)) c.write_u16.ensures
