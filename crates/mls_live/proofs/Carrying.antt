@@ -27,7 +27,7 @@ refused_next sound (refusal.Schedule line why) right next is = ap (λ o. o >>= n
 refused_next sound (refusal.TooLong file) right next is = ap (λ o. o >>= next) is
 refused_next sound (refusal.Events line) right next is = ap (λ o. o >>= next) is
 
-refused_answers : (sound : Bool) (r : Refusal) (right : Result Sending Status) (door : DoorState) → IsRefused sound r right → Answers sound right door door (status_of r)
+pub refused_answers : (sound : Bool) (r : Refusal) (right : Result Sending Status) (door : DoorState) → IsRefused sound r right → Answers sound right door door (status_of r)
 refused_answers sound refusal.ReadFault right door is = (is, refl)
 refused_answers sound refusal.Memory right door is = inl refl
 refused_answers sound (refusal.Study fault) right door is = (is, refl)
@@ -36,7 +36,7 @@ refused_answers sound (refusal.Schedule line why) right door is = (is, refl)
 refused_answers sound (refusal.TooLong file) right door is = (is, refl)
 refused_answers sound (refusal.Events line) right door is = (is, refl)
 
-unbroken : (r : Refusal) → IsUnbroken (status_of r)
+pub unbroken : (r : Refusal) → IsUnbroken (status_of r)
 unbroken refusal.ReadFault = tt
 unbroken refusal.Memory = tt
 unbroken (refusal.Study fault) = tt
@@ -45,14 +45,34 @@ unbroken (refusal.Schedule line why) = tt
 unbroken (refusal.TooLong file) = tt
 unbroken (refusal.Events line) = tt
 
+-- a refusal is no fault of the sink or of a keeper
+abbrev pub IsOwn : Status → Type 0
+IsOwn status.WriteFault = ⊥
+IsOwn (status.KeeperFault rank) = ⊥
+IsOwn (status.CheckpointBad rank at why) = ⊥
+IsOwn answer = Unit {0}
+
+pub own_refusal : (r : Refusal) → IsOwn (status_of r)
+own_refusal refusal.ReadFault = tt
+own_refusal refusal.Memory = tt
+own_refusal (refusal.Study fault) = tt
+own_refusal (refusal.Tape at why) = tt
+own_refusal (refusal.Schedule line why) = tt
+own_refusal (refusal.TooLong file) = tt
+own_refusal (refusal.Events line) = tt
+
+-- a refusal is no fault of the door either, and it comes before anything is written
+pub quiet_refusal : (r : Refusal) (s : Status) → status_of r ≡ s → IsOwn s × IsUnbroken s
+quiet_refusal r s e = (subst IsOwn e (own_refusal r), subst IsUnbroken e (unbroken r))
+
 -- an answer that is no fault of the door or of a link
-no_door_fault : (s : Status) → IsUnbroken s → s ≡ status.DoorFault → ⊥
+pub no_door_fault : (s : Status) → IsUnbroken s → s ≡ status.DoorFault → ⊥
 no_door_fault s is e = subst IsUnbroken e is
 
-no_link_fault : (s : Status) → IsUnbroken s → s ≡ status.LinkFault → ⊥
+pub no_link_fault : (s : Status) → IsUnbroken s → s ≡ status.LinkFault → ⊥
 no_link_fault s is e = subst IsUnbroken e is
 
-read_failed : (r : Refusal) (before now : ℕ) → Counts r before now → status_of r ≡ status.ReadFault → Rose before now
+pub read_failed : (r : Refusal) (before now : ℕ) → Counts r before now → status_of r ≡ status.ReadFault → Rose before now
 read_failed refusal.ReadFault before now h e = h
 read_failed refusal.Memory before now h e = absurd (cc)
 read_failed (refusal.Study fault) before now h e = absurd (cc)
@@ -82,6 +102,9 @@ carried_refused name group life old new door r h = record {
   link_fault = λ e. absurd (no_link_fault (status_of r) (unbroken r) e);
   saves = h.saves;
   accepts = refl;
+  no_write = λ e. subst IsOwn e (own_refusal r);
+  no_keeper = λ rank e. subst IsOwn e (own_refusal r);
+  no_checkpoint = λ rank at why e. subst IsOwn e (own_refusal r);
 }
 
 -- a group whose study was loaded
@@ -95,6 +118,9 @@ carried_loaded name group life old new door door' study s h r = record {
   link_fault = r.link_fault;
   saves = h.saves;
   accepts = r.accepts;
+  no_write = λ e. subst (λ (x : Status). Answers true (sending_in group life study) door door' x) e (r.answers true);
+  no_keeper = λ rank e. subst (λ (x : Status). Answers true (sending_in group life study) door door' x) e (r.answers true);
+  no_checkpoint = λ rank at why e. subst (λ (x : Status). Answers true (sending_in group life study) door door' x) e (r.answers true);
 }
 
 -- of a sending, what is answered

@@ -1,4 +1,9 @@
+pub mod Taking
+pub mod Standing
+pub mod Ranks
 pub mod Carrying
 pub mod Server
 pub mod Exactness
+pub mod Runs
+pub mod Tasks
 pub mod Wording

@@ -39,7 +39,7 @@ module _ (P : Closed → Type 0) (before after : List Closed) (l : LastClosed P 
       let e : served ++ c ∷ [] ≡ l.earlier ++ l.last ∷ [] = append_cancel_left before (served ++ c ∷ []) (l.earlier ++ l.last ∷ []) (sym (told ∙ append_assoc before served (c ∷ [])) ∙ l.told) in
       sym (same_from_push served l.earlier c l.last e).1
 
-  after_none : after ≡ before → ⊥
+  pub after_none : after ≡ before → ⊥
   after_none told =
       let e : before ++ [] ≡ before ++ (l.earlier ++ l.last ∷ []) = append-nil before ∙ sym told ∙ l.told in
       no_end l.earlier l.last (append_cancel_left before [] (l.earlier ++ l.last ∷ []) e)

@@ -4,6 +4,7 @@ use Rattle.std.specs.List.{AllByRecursion}
 use Rattle.mls_base.specs.Told.{Names, Rose}
 use Rattle.mls_result.specs.declared.status.Status.{Status}
 use Rattle.mls_result.specs.declared.status.Status.TheVariants as status
+use Rattle.mls_ckpt.specs.declared.faults.CkptWhy.{CkptWhy}
 use Rattle.mls_load.specs.Refusals.{FileState}
 use Rattle.mls_wire.specs.Doors.{Awaited, Closed}
 use Rattle.mls_wire.specs.Sessions.{reply_in}
@@ -59,6 +60,9 @@ pub record Carries (asked : Names → Result Sending Status) (files files' : Fil
   pub link_fault : answer ≡ status.LinkFault → Rose door.link_faults door'.link_faults
   pub saves : files'.save_faults ≡ files.save_faults
   pub accepts : door'.accepts ≡ door.accepts
+  pub no_write : answer ≡ status.WriteFault → ⊥
+  pub no_keeper : (rank : ℕ) → answer ≡ status.KeeperFault rank → ⊥
+  pub no_checkpoint : (rank at : ℕ) (why : CkptWhy) → answer ≡ status.CheckpointBad rank at why → ⊥
 
 -- the statuses that are refusals of the words, of what was read, or of the group's number
 abbrev pub IsRefusal : Status → Type 0
@@ -79,7 +83,7 @@ abbrev pub IsAnswered : Status → Status → Type 0
 IsAnswered refusal answer = (answer ≡ refusal) ⊎ ((answer ≡ status.Memory) ⊎ (answer ≡ status.ReadFault))
 
 -- A refusal is answered exactly where it is the one that is right.
-pub record Exactly (right : Result Sending Status) (refusal answer : Status) : Type 0 where
+pub record Exactly {A : Type 0} (right : Result A Status) (refusal answer : Status) : Type 0 where
   pub only : answer ≡ refusal → right ≡ Err refusal
   pub wherever : right ≡ Err refusal → IsAnswered refusal answer
 
@@ -129,3 +133,12 @@ IsDoneOrMemory answer = (answer ≡ status.Done) ⊎ (answer ≡ status.Memory)
 -- a count of faults of the outside stood still
 abbrev pub DidNotRise : ℕ → ℕ → Type 0
 DidNotRise before now = Rose before now → ⊥
+
+-- after these answers no keeper was called
+abbrev pub IsUncalled : Status → Type 0
+IsUncalled status.Done = ⊥
+IsUncalled status.WriteFault = ⊥
+IsUncalled (status.KeeperFault rank) = ⊥
+IsUncalled (status.CheckpointBad rank at why) = ⊥
+IsUncalled status.Memory = ⊥
+IsUncalled answer = ⊤

@@ -1,15 +1,21 @@
 //! The top call.
 
-ghost use Rattle.std.specs.Prelude.{◌≡◌, ◌↔◌, List, map, string_bytes, vec_len, None, Some, IsTrue};
+ghost use Rattle.std.specs.Prelude.{◌≡◌, ◌↔◌, ℕ, List, map, string_bytes, vec_len, None, Some, IsTrue, ◌⊎◌};
 ghost use Rattle.mls_base.specs.Told.{Names, Rose};
+ghost use Rattle.mls_text.specs.Writing.{sink_seen};
+ghost use Rattle.mls_ckpt.specs.declared.faults.CkptWhy.{CkptWhy};
+ghost use Rattle.mls_book.specs.Keepers.{AtRank, keepers_seen};
 ghost use Rattle.mls_load.specs.Refusals.{seen};
 ghost use Rattle.mls_wire.specs.Doors.{Closed};
 ghost use Rattle.mls_live.specs.Words.{words_of};
 ghost use Rattle.mls_live.specs.Doors.{door_seen};
-ghost use Rattle.mls_live.specs.Ideal.{RefusesExactly, ideal, right_command};
-ghost use Rattle.mls_live.specs.Answers.{AllWelcome, Answers, Carries, DidNotRise, HasEnough, IsAsked, IsDoneOrMemory, IsRight, SaysServer};
+ghost use Rattle.mls_live.specs.Running.{HasFaulted, HasGivenBad};
+ghost use Rattle.mls_live.specs.Ideal.{RefusesExactly, WritesNothing, ideal, right_command};
+ghost use Rattle.mls_live.specs.Answers.{AllWelcome, DidNotRise, IsDoneOrMemory, IsUncalled, SaysServer};
+ghost use Rattle.mls_live.specs.Tasks.{AllTell, CarriesOut, HasEnoughToRun, HasLinks, IsAskedTask, IsQuiet, IsRunning, IsSending, NoneRose, TellsRight};
 
 use crate::group::run_group;
+use crate::running::run_run;
 use crate::words::{Words, read_words};
 use mls_base::gate::Gate;
 use mls_base::outside::{Files, Keeper, Sink};
@@ -17,20 +23,39 @@ use mls_load::WordsFault;
 use mls_result::{Status, Unbuilt};
 use mls_wire::Door;
 use std::alloc::Global;
+use std::sync::Wait;
+use std::thread::Threads;
 
 /// Carries out a command.
-fn carry_out<F: Files, D: Door>(
+fn carry_out<
+    R: Threads + Wait + Sync,
+    F: Files,
+    O: Sink,
+    K: Keeper + Drop + Send,
+    D: Door,
+    G: Gate + Sync,
+>(
+    rt: &R,
     alloc: Global,
     command: Words,
     files: &mut F,
+    out: &mut O,
+    keepers: Vec<K>,
     door: &mut D,
-) -> Status
-    ensures carried { Carries (right_command command)
+    gate: &G,
+) -> (Status, Vec<K>)
+    requires { vec_len keepers ≡ 64 }
+    ensures carried { CarriesOut (right_command command)
         (seen F.held F.sound F.load_faults F.save_faults files.old)
         (seen F.held F.sound F.load_faults F.save_faults files.new)
+        (sink_seen O.told O.faults O.sure out.old) (sink_seen O.told O.faults O.sure out.new)
+        (keepers_seen K.Keeper keepers.items) (keepers_seen K.Keeper result.1.items)
         (door_seen D.closed D.faults D.link_faults D.accepts D.sound D.awaited door.old)
-        (door_seen D.closed D.faults D.link_faults D.accepts D.sound D.awaited door.new) result }
-    ensures no_usage { result ≡ Status.Usage → ⊥ }
+        (door_seen D.closed D.faults D.link_faults D.accepts D.sound D.awaited door.new) result.0 }
+    ensures no_usage { result.0 ≡ Status.Usage → ⊥ }
+    ensures places { vec_len result.1 ≡ 64 }
+    ensures uncalled { IsUncalled result.0 → result.1 ≡ keepers }
+    ensures unwritten { WritesNothing (Some command) → (out.new ≡ out.old) × (result.1 ≡ keepers) }
 {
     match command {
         Words::Group {
@@ -38,45 +63,98 @@ fn carry_out<F: Files, D: Door>(
             group,
             life,
             addr,
-        } => return run_group(
+        } => {
+            let status = run_group(
+                alloc,
+                study.as_str(),
+                group,
+                life,
+                addr.as_str(),
+                files,
+                door,
+            );
+            return (status, keepers);
+        }
+        Words::Run {
+            study,
+            tape,
+            workers,
+            schedule,
+        } => return run_run(
+            rt,
             alloc,
             study.as_str(),
-            group,
-            life,
-            addr.as_str(),
+            tape.as_str(),
+            workers,
+            schedule.as_str(),
             files,
-            door,
+            out,
+            keepers,
+            gate,
         ),
-        Words::Run { .. } | Words::Serve { .. } | Words::Poll { .. } => {
+        Words::Serve { .. } | Words::Poll { .. } => {
             let part = Unbuilt::Command;
-            return Status::NotBuilt { part };
+            return (Status::NotBuilt { part }, keepers);
         }
     }
 }
 
 /// Carries out the command that the words say.
-fn run<F: Files, D: Door>(alloc: Global, words: &[String], files: &mut F, door: &mut D) -> Status
-    ensures carried { Carries (λ held. ideal held (map string_bytes words.now))
+fn run<
+    R: Threads + Wait + Sync,
+    F: Files,
+    O: Sink,
+    K: Keeper + Drop + Send,
+    D: Door,
+    G: Gate + Sync,
+>(
+    rt: &R,
+    alloc: Global,
+    words: &[String],
+    files: &mut F,
+    out: &mut O,
+    keepers: Vec<K>,
+    door: &mut D,
+    gate: &G,
+) -> (Status, Vec<K>)
+    requires { vec_len keepers ≡ 64 }
+    ensures carried { CarriesOut (λ held. ideal held (map string_bytes words.now))
         (seen F.held F.sound F.load_faults F.save_faults files.old)
         (seen F.held F.sound F.load_faults F.save_faults files.new)
+        (sink_seen O.told O.faults O.sure out.old) (sink_seen O.told O.faults O.sure out.new)
+        (keepers_seen K.Keeper keepers.items) (keepers_seen K.Keeper result.1.items)
         (door_seen D.closed D.faults D.link_faults D.accepts D.sound D.awaited door.old)
-        (door_seen D.closed D.faults D.link_faults D.accepts D.sound D.awaited door.new) result }
-    ensures usage { (result ≡ Status.Usage) ↔ (words_of (map string_bytes words.now) ≡ None) }
+        (door_seen D.closed D.faults D.link_faults D.accepts D.sound D.awaited door.new) result.0 }
+    ensures usage { (result.0 ≡ Status.Usage) ↔ (words_of (map string_bytes words.now) ≡ None) }
+    ensures places { vec_len result.1 ≡ 64 }
+    ensures uncalled { IsUncalled result.0 → result.1 ≡ keepers }
+    ensures unwritten { WritesNothing (words_of (map string_bytes words.now)) →
+        (out.new ≡ out.old) × (result.1 ≡ keepers) }
 {
     match read_words(alloc, words) {
-        Ok(command) => return carry_out(alloc, command, files, door),
-        Err(WordsFault::Usage) => return Status::Usage,
-        Err(WordsFault::Memory) => return Status::Memory,
+        Ok(command) => return carry_out(rt, alloc, command, files, out, keepers, door, gate),
+        Err(WordsFault::Usage) => return (Status::Usage, keepers),
+        Err(WordsFault::Memory) => return (Status::Memory, keepers),
     }
 }
 
 /// The program `melissad` without its outside: carries out the command that the words say (those after the program's
 /// name) over these files, this sink, these 64 keepers and this door, and says how it went.
 ///
-/// `group` sends one life of one group: where the files and the door tell and the answer is `Done`, the door has closed
-/// one link for each pair of a rank and a client, in order, to each of which exactly the pair's session was written.
-/// The gate is for the workers of `run`. `run`, `serve` and `poll` are not built yet.
-pub fn melissad<F: Files, O: Sink, K: Keeper + Drop, D: Door + Drop, G: Gate>(
+/// `run` runs a tape's lanes on workers that pass the gate before each of their offers, writes the result and saves the
+/// schedule that was run: where the files tell and the answer is `Done` they then hold the text of a complete schedule,
+/// of which the result text was written. `group` sends one life of one group: where the files and the door tell and the
+/// answer is `Done`, the door has closed one link for each pair of a rank and a client, in order, to each of which
+/// exactly the pair's session was written. `serve` and `poll` are not built yet.
+pub fn melissad<
+    R: Threads + Wait + Sync,
+    F: Files,
+    O: Sink,
+    K: Keeper + Drop + Send,
+    D: Door + Drop,
+    G: Gate + Sync,
+>(
+    rt: &R,
     alloc: Global,
     words: &[String],
     files: &mut F,
@@ -87,10 +165,19 @@ pub fn melissad<F: Files, O: Sink, K: Keeper + Drop, D: Door + Drop, G: Gate>(
 ) -> (Status, Vec<K>, D)
     requires { vec_len keepers ≡ 64 }
 
-    // What is right was sent, or the refusal that is right came; after a fault on the way the closed links say how far
-    // it went.
+    // What is right was run or sent, or the refusal that is right came. Of a run there is a complete schedule, which the
+    // files then hold under its name: the text is the result text of it where each keeper tells what it holds, or no
+    // crash of its rank's history stands behind a save; whatever they tell it is the text of some cores; each rank's
+    // keeper that tells holds the last save of its history, or what it held, and the others are as before. Where the
+    // order of the tape doesn't matter the text has the step and cell lines of the plain schedule. After a failed write
+    // a front of such a text went out, or all of it and the save failed. Of a sending the closed links say how far it
+    // went.
     ensures right { (held : Names) → F.held files.old ≡ Some held →
-        Answers (F.sound files.old) (ideal held (map string_bytes words.now))
+        TellsRight (ideal held (map string_bytes words.now))
+        (seen F.held F.sound F.load_faults F.save_faults files.old)
+        (seen F.held F.sound F.load_faults F.save_faults files.new)
+        (sink_seen O.told O.faults O.sure out.old) (sink_seen O.told O.faults O.sure out.new)
+        (keepers_seen K.Keeper keepers.items) (keepers_seen K.Keeper result.1.items)
         (door_seen D.closed D.faults D.link_faults D.accepts D.sound D.awaited door)
         (door_seen D.closed D.faults D.link_faults D.accepts D.sound D.awaited result.2) result.0 }
 
@@ -104,21 +191,30 @@ pub fn melissad<F: Files, O: Sink, K: Keeper + Drop, D: Door + Drop, G: Gate>(
     ensures server { (held : Names) → F.held files.old ≡ Some held → (before after : List Closed) →
         D.closed door ≡ Some before → D.closed result.2 ≡ Some after → SaysServer before after result.0 }
 
-    // Over sound files that tell, and a door that hands out enough links for sure, the answer is the refusal that the
-    // words and the files ask for; or that all was sent, or that the server didn't welcome it; or memory is wanting.
+    // Over sound files that tell, sound keepers that tell, a sink that takes the text for sure, and a door that hands
+    // out enough links for sure, the answer is the refusal that the words and the files ask for; or of a run that it was
+    // done; or of a sending that all was sent, or that the server didn't welcome it; or memory is wanting.
     ensures sound { (held : Names) → F.held files.old ≡ Some held → IsTrue (F.sound files.old) →
-        HasEnough (ideal held (map string_bytes words.now)) (D.awaited door) →
-        IsAsked (ideal held (map string_bytes words.now)) result.0 }
+        HasLinks (ideal held (map string_bytes words.now)) (D.awaited door) →
+        HasEnoughToRun (ideal held (map string_bytes words.now))
+        (sink_seen O.told O.faults O.sure out.old) (keepers_seen K.Keeper keepers.items) →
+        IsAskedTask (ideal held (map string_bytes words.now)) result.0 }
 
     // The causes of faults of the outside.
     ensures read_fault { result.0 ≡ Status.ReadFault → Rose (F.load_faults files.old) (F.load_faults files.new) }
+    ensures write_fault { result.0 ≡ Status.WriteFault →
+        Rose (O.faults out.old) (O.faults out.new) ⊎ Rose (F.save_faults files.old) (F.save_faults files.new) }
+    ensures keeper_fault { (rank : ℕ) → result.0 ≡ Status.KeeperFault rank →
+        AtRank rank (keepers_seen K.Keeper keepers.items) (keepers_seen K.Keeper result.1.items) HasFaulted }
+    ensures checkpoint_bad { (rank at : ℕ) (why : CkptWhy) → result.0 ≡ Status.CheckpointBad rank at why →
+        AtRank rank (keepers_seen K.Keeper keepers.items) (keepers_seen K.Keeper result.1.items) HasGivenBad }
     ensures door_fault { result.0 ≡ Status.DoorFault → Rose (D.faults door) (D.faults result.2) }
     ensures link_fault { result.0 ≡ Status.LinkFault → Rose (D.link_faults door) (D.link_faults result.2) }
 
     // Where there is something to send, no count rose and the server welcomed each link, all was sent or memory is
     // wanting.
     ensures complete { (held : Names) → F.held files.old ≡ Some held →
-        IsRight (ideal held (map string_bytes words.now)) →
+        IsSending (ideal held (map string_bytes words.now)) →
         DidNotRise (F.load_faults files.old) (F.load_faults files.new) →
         DidNotRise (D.faults door) (D.faults result.2) →
         DidNotRise (D.link_faults door) (D.link_faults result.2) →
@@ -126,13 +222,29 @@ pub fn melissad<F: Files, O: Sink, K: Keeper + Drop, D: Door + Drop, G: Gate>(
         ((after : List Closed) → D.closed result.2 ≡ Some after → AllWelcome before after) →
         IsDoneOrMemory result.0 }
 
-    // Nothing is written and no keeper is called. No link is accepted and nothing is saved.
-    ensures unwritten { out.new ≡ out.old }
-    ensures uncalled { result.1 ≡ keepers }
+    // Where there is something to run, no count rose and each keeper tells what it holds, it was done or memory is
+    // wanting.
+    ensures complete_run { (held : Names) → F.held files.old ≡ Some held →
+        IsRunning (ideal held (map string_bytes words.now)) →
+        DidNotRise (F.load_faults files.old) (F.load_faults files.new) →
+        DidNotRise (F.save_faults files.old) (F.save_faults files.new) →
+        DidNotRise (O.faults out.old) (O.faults out.new) →
+        NoneRose (keepers_seen K.Keeper keepers.items) (keepers_seen K.Keeper result.1.items) →
+        AllTell (keepers_seen K.Keeper keepers.items) →
+        IsDoneOrMemory result.0 }
+
+    // No command but `run` writes or calls a keeper, and `run` writes nothing before these answers. There are as many
+    // keepers as before; after a refusal each is as it was. No link is accepted, and no save fails but where a write
+    // fault is answered.
+    ensures unwritten { WritesNothing (words_of (map string_bytes words.now)) →
+        (out.new ≡ out.old) × (result.1 ≡ keepers) }
+    ensures quiet { IsQuiet result.0 → O.told out.new ≡ O.told out.old }
+    ensures places { vec_len result.1 ≡ 64 }
+    ensures uncalled { IsUncalled result.0 → result.1 ≡ keepers }
     ensures accepts { D.accepts result.2 ≡ D.accepts door }
-    ensures saves { F.save_faults files.new ≡ F.save_faults files.old }
+    ensures saves { (result.0 ≡ Status.WriteFault → ⊥) → F.save_faults files.new ≡ F.save_faults files.old }
 {
     let mut door = door;
-    let status = run(alloc, words, files, &mut door);
+    let (status, keepers) = run(rt, alloc, words, files, out, keepers, &mut door, gate);
     (status, keepers, door)
 }

@@ -2,11 +2,14 @@
 #![tactic(auto)]
 
 mod commands;
+mod ending;
 mod group;
 mod program;
+mod running;
 mod words;
 
 pub use commands::melissad;
+pub use ending::end_run;
 pub use mls_load::WordsFault;
 pub use program::run_program;
 pub use words::{Words, read_words};

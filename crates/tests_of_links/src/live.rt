@@ -9,6 +9,8 @@ use mls_live::melissad;
 use mls_result::Status;
 use mls_wire::MemDoor;
 use std::alloc::{AllocError, Global};
+use std::sync::Wait;
+use std::thread::Threads;
 
 /// A keeper in memory for each rank there may be, none of which holds anything.
 fn no_checkpoints(alloc: Global) -> Result<Vec<MemKeeper>, AllocError>
@@ -31,7 +33,12 @@ fn words(alloc: Global, group: &str) -> Result<Vec<String>, AllocError> {
 }
 
 /// The number of the command's status for a group, and the door after it.
-fn run(alloc: Global, group: &str, door: MemDoor) -> Result<(u8, MemDoor), AllocError> {
+fn run<R: Threads + Wait + Sync>(
+    rt: &R,
+    alloc: Global,
+    group: &str,
+    door: MemDoor,
+) -> Result<(u8, MemDoor), AllocError> {
     let mut files = MemFiles::new(alloc, Vec::new(alloc));
     if files.set("study", STUDY).is_err() {
         return Err(AllocError);
@@ -42,6 +49,7 @@ fn run(alloc: Global, group: &str, door: MemDoor) -> Result<(u8, MemDoor), Alloc
     let words = words(alloc, group)?;
     let keepers = no_checkpoints(alloc)?;
     let (status, _, door) = melissad(
+        rt,
         alloc,
         words.as_slice(),
         &mut files,
@@ -54,14 +62,15 @@ fn run(alloc: Global, group: &str, door: MemDoor) -> Result<(u8, MemDoor), Alloc
 }
 
 /// The number of the status for a group whose link gives these bytes and has these calls fail, and what was written.
-fn answer(
+fn answer<R: Threads + Wait + Sync>(
+    rt: &R,
     alloc: Global,
     group: &str,
     bytes: &[u8],
     fails: Vec<u64>,
 ) -> Result<(u8, Option<Vec<u8>>), AllocError> {
     let door = door_of(alloc, bytes, fails)?;
-    let (number, door) = run(alloc, group, door)?;
+    let (number, door) = run(rt, alloc, group, door)?;
     match written(&door) {
         Some(bytes) => Ok((number, Some(Vec::from_slice(alloc, bytes)?))),
         None => Ok((number, None)),
@@ -71,7 +80,7 @@ fn answer(
 #[test]
 fn command_sends_a_group(rt: HostRuntime) {
     let alloc = rt.alloc();
-    let (number, sent) = answer(alloc, "0", WELCOME, Vec::new(alloc)).expect(&rt, "memory");
+    let (number, sent) = answer(&rt, alloc, "0", WELCOME, Vec::new(alloc)).expect(&rt, "memory");
     assert!(rt; number == 0);
     assert!(rt; sent.is_some_and(|bytes| bytes.as_slice() == SENT));
 }
@@ -79,14 +88,14 @@ fn command_sends_a_group(rt: HostRuntime) {
 #[test]
 fn statuses_of_a_group(rt: HostRuntime) {
     let alloc = rt.alloc();
-    let refused = answer(alloc, "0", REFUSE, Vec::new(alloc)).expect(&rt, "memory");
-    let no_answer = answer(alloc, "0", &[], Vec::new(alloc)).expect(&rt, "memory");
-    let no_group = answer(alloc, "2", WELCOME, Vec::new(alloc)).expect(&rt, "memory");
-    let no_number = answer(alloc, "65535", WELCOME, Vec::new(alloc)).expect(&rt, "memory");
+    let refused = answer(&rt, alloc, "0", REFUSE, Vec::new(alloc)).expect(&rt, "memory");
+    let no_answer = answer(&rt, alloc, "0", &[], Vec::new(alloc)).expect(&rt, "memory");
+    let no_group = answer(&rt, alloc, "2", WELCOME, Vec::new(alloc)).expect(&rt, "memory");
+    let no_number = answer(&rt, alloc, "65535", WELCOME, Vec::new(alloc)).expect(&rt, "memory");
     let fails = vec![in alloc; 0].expect(&rt, "memory");
-    let broken = answer(alloc, "0", WELCOME, fails).expect(&rt, "memory");
+    let broken = answer(&rt, alloc, "0", WELCOME, fails).expect(&rt, "memory");
     let shut = MemDoor::new(alloc, Vec::new(alloc), Vec::new(alloc));
-    let (unreached, _) = run(alloc, "0", shut).expect(&rt, "memory");
+    let (unreached, _) = run(&rt, alloc, "0", shut).expect(&rt, "memory");
     assert!(rt; refused.0 == 15 && no_answer.0 == 16 && broken.0 == 14 && unreached == 11);
     assert!(rt; no_group.0 == 17 && no_group.1.is_none());
     assert!(rt; no_number.0 == 1 && no_number.1.is_none());
