@@ -1,0 +1,11 @@
+//! The command `run` on threads: rows of the specification's workers, and calls that fail.
+#![tactic(auto)]
+
+#[cfg(test)]
+mod common;
+#[cfg(test)]
+mod held;
+#[cfg(test)]
+mod meeting;
+#[cfg(test)]
+mod rows;
