@@ -20,11 +20,16 @@ struct Stock {
     left: u32,
 }
 
-/// A worker's lanes whose turns haven't all come, and where the next turn is.
+/// How many turns a lane has in a row. Rows are added eight at a time, with one walk over the sums: so a rank's sums
+/// stay in cache for eight walks.
+const TURNS_IN_A_ROW: u32 = 64;
+
+/// A worker's lanes whose turns haven't all come, where the next turn is, and how many the lane there has in a row.
 #[derive(Drop)]
 pub struct Rota {
     stocks: Vec<Stock>,
     next: usize,
+    stays: u32,
 }
 
 impl Rota {
@@ -41,10 +46,15 @@ impl Rota {
                 stocks.push(Stock { place, left })?;
             }
         }
-        Ok(Rota { stocks, next: 0 })
+        Ok(Rota {
+            stocks,
+            next: 0,
+            stays: TURNS_IN_A_ROW,
+        })
     }
 
-    /// The lane of the next turn, or None where no event is left. Each lane has as many turns as events.
+    /// The lane of the next turn, or None where no event is left. Each lane has as many turns as events, 64 in a
+    /// row, then the next lane's turn comes.
     pub fn turn(&mut self) -> Option<Place> {
         if self.next >= self.stocks.len() {
             self.next = 0;
@@ -55,13 +65,19 @@ impl Rota {
         let Stock { place, left } = self.stocks[self.next];
         if left <= 1 {
             self.stocks.swap_remove(self.next);
+            self.stays = TURNS_IN_A_ROW;
             return Some(place);
         }
         self.stocks[self.next] = Stock {
             place,
             left: left - 1,
         };
-        self.next += 1;
+        if self.stays > 1 {
+            self.stays -= 1;
+        } else {
+            self.stays = TURNS_IN_A_ROW;
+            self.next += 1;
+        }
         Some(place)
     }
 }
