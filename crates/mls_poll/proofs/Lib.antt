@@ -1,0 +1,5 @@
+pub mod Had
+pub mod Wholes
+pub mod Cutting
+pub mod Stepping
+pub mod Going
