@@ -1,0 +1,3 @@
+pub mod Recut
+pub mod Reads
+pub mod Opening
