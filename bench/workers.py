@@ -3,7 +3,7 @@
 
 No speed. For the numbers 1 to N, the tape of the study's trial of that number is run by `melissad run` with each number of
 workers, and folded by `melissa fold` under the schedule that the run saved. Both texts must be equal byte for byte. Ends
-with the first pair that differs. Where the study of row large trial is named, a whole campaign is compared. `rt ci` first;
+with the first pair that differs. With `--study examples/large-trial.toml` a whole campaign is compared. `rt ci` first;
 MELISSA and MELISSAD name programs that lie elsewhere.
 """
 import argparse

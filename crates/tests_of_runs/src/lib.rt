@@ -1,4 +1,4 @@
-//! The command `run` on threads: rows of the specification's workers, and calls that fail.
+//! The command `run` on threads: small tapes by hand, and calls that fail.
 #![tactic(auto)]
 
 #[cfg(test)]
