@@ -60,6 +60,45 @@ pub enum Seen<'a> {
     Bad(FrameFault),
 }
 
+impl<'a> FrameView<'a> {
+    /// The same frame, lent once more from the same bytes.
+    pub fn lent(&self) -> FrameView<'_>
+        ensures { frame_of result ≡ frame_of self.now }
+    {
+        match self {
+            FrameView::Piece(piece) => FrameView::Piece(piece.lent()),
+            FrameView::Beat { group, life } => FrameView::Beat {
+                group: *group,
+                life: *life,
+            },
+            FrameView::Bye { group, life } => FrameView::Bye {
+                group: *group,
+                life: *life,
+            },
+            FrameView::Save => FrameView::Save,
+            FrameView::Crash => FrameView::Crash,
+            FrameView::Hello {
+                version,
+                group,
+                life,
+                client,
+                rank,
+            } => FrameView::Hello {
+                version: *version,
+                group: *group,
+                life: *life,
+                client: *client,
+                rank: *rank,
+            },
+            FrameView::Welcome { lane } => FrameView::Welcome { lane: *lane },
+            FrameView::Refuse { reason, value } => FrameView::Refuse {
+                reason: *reason,
+                value: *value,
+            },
+        }
+    }
+}
+
 fn is_no_length(size: u32) -> bool
     ensures { result ≡ is_no_length size }
 {

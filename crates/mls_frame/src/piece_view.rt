@@ -49,6 +49,22 @@ impl<'a> PieceView<'a> {
         }
     }
 
+    /// The same piece, its samples lent once more from the same bytes.
+    pub fn lent(&self) -> PieceView<'_>
+        ensures { piece_of result ≡ piece_of self.now }
+    {
+        PieceView {
+            life: self.life,
+            group: self.group,
+            plane: self.plane,
+            client: self.client,
+            rows: self.rows,
+            first: self.first,
+            count: self.count,
+            samples: self.samples,
+        }
+    }
+
     /// The life of the group that sent the piece.
     pub fn life(&self) -> u32
         ensures { result ≡ (piece_of self.now).life }
