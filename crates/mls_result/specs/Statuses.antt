@@ -23,3 +23,6 @@ number_of (status.Refused reason value) = 15
 number_of status.Peer = 16
 number_of (status.NoGroup group) = 17
 number_of status.TooLarge = 18
+number_of status.RunnerFault = 19
+number_of (status.MarksDiffer other plane group first_has) = 20
+number_of (status.OldRanks ranks) = 21

@@ -37,10 +37,16 @@ pub enum Status {
     Study(StudyFault),
     /// The tape's bytes are refused at a place.
     #[error("tape: {} at {at}", TapeText(*.why))]
-    Tape { at: u64, why: TapeWhy },
+    Tape {
+        at: u64,
+        why: TapeWhy,
+    },
     /// The schedule's bytes are refused at a line, counted from 1.
     #[error("schedule: {} in line {line}", ScheduleText(*.why))]
-    Schedule { line: u32, why: SchedWhy },
+    Schedule {
+        line: u32,
+        why: SchedWhy,
+    },
     /// A file could not be read.
     #[error("cannot read")]
     ReadFault,
@@ -49,40 +55,73 @@ pub enum Status {
     WriteFault,
     /// A call of this rank's checkpoint store failed.
     #[error("checkpoint store of rank {rank} failed")]
-    KeeperFault { rank: u32 },
+    KeeperFault {
+        rank: u32,
+    },
     /// This rank's checkpoint store gave nothing, or bytes that are no checkpoint, the first wrong one at a place.
     #[error("checkpoint of rank {rank}: {} at {at}", CheckpointText(*.why))]
-    CheckpointBad { rank: u32, at: u64, why: CkptWhy },
+    CheckpointBad {
+        rank: u32,
+        at: u64,
+        why: CkptWhy,
+    },
     /// Memory ran out.
     #[error("out of memory")]
     Memory,
     /// The command is not built yet.
     #[error("not built yet")]
-    NotBuilt { part: Unbuilt },
+    NotBuilt {
+        part: Unbuilt,
+    },
     /// No connection could be waited for or made.
     #[error("cannot listen or connect")]
     DoorFault,
     /// A file has more bytes than it may have.
     #[error("file too long: {}", RoleText(*.file))]
-    TooLong { file: FileRole },
+    TooLong {
+        file: FileRole,
+    },
     /// The events file is refused at a line, counted from 1.
     #[error("events: line {line}")]
-    Events { line: u32 },
+    Events {
+        line: u32,
+    },
     /// A read or write of a connection failed.
     #[error("connection failed")]
     LinkFault,
     /// The server refused a connection of a group.
     #[error("refused by server: reason {reason} value {value}")]
-    Refused { reason: u8, value: u32 },
+    Refused {
+        reason: u8,
+        value: u32,
+    },
     /// What the server sent first on a connection of a group is no answer.
     #[error("unexpected answer")]
     Peer,
     /// The study has no such group.
     #[error("no such group: {group}")]
-    NoGroup { group: u32 },
+    NoGroup {
+        group: u32,
+    },
     /// The tape of a trial would be too large.
     #[error("trial too large")]
     TooLarge,
+    /// What runs polled connections failed.
+    #[error("runner failed")]
+    RunnerFault,
+    /// The marks of two ranks differ first at this plane and group, which rank 0 has or hasn't.
+    #[error("marks differ: rank 0 and rank {other} at plane {plane} group {group}")]
+    MarksDiffer {
+        other: u32,
+        plane: u32,
+        group: u32,
+        first_has: bool,
+    },
+    /// The study would not be valid with so many ranks.
+    #[error("cannot resume from {ranks} ranks")]
+    OldRanks {
+        ranks: u32,
+    },
 }
 
 impl Status {
@@ -113,6 +152,9 @@ impl Status {
             Status::Peer => 16,
             Status::NoGroup { .. } => 17,
             Status::TooLarge => 18,
+            Status::RunnerFault => 19,
+            Status::MarksDiffer { .. } => 20,
+            Status::OldRanks { .. } => 21,
         }
     }
 }
