@@ -19,4 +19,4 @@ pub use mls_model::launcher::{Action, Event, Timed};
 pub use reading::{EventFault, read_events};
 pub use totals::Totals;
 pub use watch::Watch;
-pub use writing::write_watch;
+pub use writing::{WatchReport, write_watch};

@@ -15,6 +15,7 @@ use mls_base::shape::Shape;
 use mls_model::launcher::{Action, Event, Timed};
 use mls_text::{Line, put_bytes};
 use std::alloc::Global;
+use std::marker::Model;
 
 /// Appends the actions with their time.
 fn add_timed(lines: &mut Vec<Timed>, time: u32, actions: &[Action]) -> Result<(), NoMemory>
@@ -137,6 +138,41 @@ fn put_watch<O: Sink>(out: &mut O, all: &[Timed], totals: &Totals) -> Result<(),
     end_line(totals).put(out)
 }
 
+/// The watch text of a list of events before it is written: the actions with their times, and where the groups then
+/// stand. Contracts see it as the text.
+#[derive(Drop)]
+pub struct WatchReport {
+    lines: Vec<Timed>,
+    totals: Totals,
+}
+
+impl Model for WatchReport {
+    ghost use Rattle.std.specs.Prelude.{ℕ, ◌++◌, List};
+    ghost use Rattle.mls_model.specs.WatchText.{watch_title, action_lines, end_words};
+
+    ghost Value = { List ℕ };
+
+    ghost view = { λ r. watch_title ++ (action_lines r.lines.items ++ end_words r.totals.running r.totals.waiting r.totals.finished r.totals.given_up) };
+}
+
+impl WatchReport {
+    /// The report of the events for a study.
+    pub fn new(alloc: Global, shape: &Shape, events: &[Event]) -> Result<WatchReport, NoMemory>
+        ensures { IfOk result (λ report. report ≡ watch_text shape.now events.now) }
+    {
+        let (lines, totals) = watched(alloc, shape, events)?;
+        Ok(WatchReport { lines, totals })
+    }
+
+    /// Writes the text. It takes no memory. After `Failed` a front of the text went out; that comes only where the sink
+    /// takes fewer bytes for sure than the text has.
+    pub fn write<O: Sink>(&self, out: &mut O) -> Result<(), Failed>
+        ensures { WritesTo O.told O.faults O.sure out.old out.new result self.now }
+    {
+        put_watch(out, &self.lines, &self.totals)
+    }
+}
+
 /// Writes the watch text of the events for a study.
 ///
 /// Nothing is written before the actions of all events are known. After `WriteFault` a front of the text went out
@@ -151,8 +187,8 @@ pub fn write_watch<O: Sink>(
     ensures { WritesOut result (watch_text shape.now events.now)
         (sink_seen O.told O.faults O.sure out.old) (sink_seen O.told O.faults O.sure out.new) }
 {
-    let (all, totals) = watched(alloc, shape, events)?;
-    match put_watch(out, &all, &totals) {
+    let report = WatchReport::new(alloc, shape, events)?;
+    match report.write(out) {
         Ok(()) => Ok(()),
         Err(_) => Err(OutFault::WriteFault),
     }
