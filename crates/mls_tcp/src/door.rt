@@ -1,20 +1,23 @@
 //! A door to the network. What goes over its links it doesn't tell, and it is never sound.
 
-ghost use Rattle.std.specs.Prelude.{◌≡◌, [], None, false};
+ghost use Rattle.std.specs.Prelude.{◌≡◌, [], None, Some, false};
 
 use crate::link::TcpLink;
+use crate::waits::Waits;
 use mls_base::faults::{Failed, NoMemory, counted, fail};
 use mls_wire::Door;
 use std::alloc::Global;
 use std::io;
 use std::io::ErrorKind;
 use std::net::{IpAddr, Ipv4Addr, Net, OpenListener, SocketAddr, TcpListener, TcpStream};
+use std::time::Duration;
 
 /// A door to the network. An address is HOST:PORT, with `localhost` or an IP address for its host.
 #[derive(Drop)]
 pub struct TcpDoor<R: Net + Drop> {
     rt: R,
     listener: Option<R::Listener>,
+    waits: Waits,
     faults: u64,
     accepts: u64,
     link_faults: u64,
@@ -31,6 +34,26 @@ impl<R: Net + Drop> TcpDoor<R> {
         TcpDoor {
             rt,
             listener: None,
+            waits: Waits::endless(),
+            faults: 0,
+            accepts: 0,
+            link_faults: 0,
+        }
+    }
+
+    /// The same, but that a read of a link that was accepted fails where it waits longer than `first` while less than a
+    /// group's first frame has come, and longer than `silence` after it. Links that were connected wait as ever.
+    pub fn with_time_outs(rt: R, first: Duration, silence: Duration) -> TcpDoor<R>
+        ensures closed { ⟦<TcpDoor<R> as Door>⟧.closed result ≡ None }
+        ensures faults { ⟦<TcpDoor<R> as Door>⟧.faults result ≡ 0 }
+        ensures accepts { ⟦<TcpDoor<R> as Door>⟧.accepts result ≡ 0 }
+        ensures link_faults { ⟦<TcpDoor<R> as Door>⟧.link_faults result ≡ 0 }
+        ensures waits { result.waits ≡ record { next = Some first; later = Some silence; awaited = 19 } }
+    {
+        TcpDoor {
+            rt,
+            listener: None,
+            waits: Waits::bounded(first, silence),
             faults: 0,
             accepts: 0,
             link_faults: 0,
@@ -62,7 +85,16 @@ fn connect<R: Net>(rt: &R, addr: &str) -> io::Result<R::Stream> {
     TcpStream::connect(rt, address_of(addr)?)
 }
 
-/// The next connection that comes, again where a signal breaks the waiting off.
+/// Whether no connection came, and the next may: a signal broke the waiting off, or the peer was gone before it was
+/// accepted.
+fn is_passing(kind: ErrorKind) -> bool {
+    matches!(
+        kind,
+        ErrorKind::Interrupted | ErrorKind::ConnectionAborted | ErrorKind::ConnectionReset
+    )
+}
+
+/// The next connection that comes, past those that were gone before they were accepted.
 fn accept_one<L: OpenListener>(listener: &Option<L>) -> io::Result<L::Stream> {
     let Some(listener) = listener else {
         return Err(io::Error::from(ErrorKind::NotConnected));
@@ -70,7 +102,7 @@ fn accept_one<L: OpenListener>(listener: &Option<L>) -> io::Result<L::Stream> {
     for _ in 0..u64::MAX {
         match listener.accept() {
             Ok((stream, _)) => return Ok(stream),
-            Err(error) if error.kind() == ErrorKind::Interrupted => {}
+            Err(error) if is_passing(error.kind()) => {}
             Err(error) => return Err(error),
         }
     }
@@ -104,12 +136,12 @@ impl<R: Net + Drop> Door for TcpDoor<R> {
         }
         let stream = counted(&mut self.faults, accept_one(&self.listener))?;
         self.accepts += 1;
-        Ok(TcpLink::new(stream))
+        Ok(TcpLink::new(stream, self.waits))
     }
 
     fn connect(&mut self, addr: &str) -> Result<TcpLink<R::Stream>, Failed> {
         let stream = counted(&mut self.faults, connect(&self.rt, addr))?;
-        Ok(TcpLink::new(stream))
+        Ok(TcpLink::new(stream, Waits::endless()))
     }
 
     fn close(&mut self, _alloc: Global, link: TcpLink<R::Stream>) -> Result<(), NoMemory> {

@@ -3,6 +3,7 @@
 
 mod door;
 mod link;
+mod waits;
 
 pub use door::TcpDoor;
 pub use link::TcpLink;

@@ -2,24 +2,31 @@
 
 ghost use Rattle.std.specs.Prelude.{◌≡◌, ◌<◌, ◌≤◌, None, false, length, IfOk};
 
+use crate::waits::Waits;
 use mls_base::faults::{Failed, counted};
 use mls_wire::Link;
 use std::io;
 use std::io::{ErrorKind, Read, Write};
+use std::net::OpenStream;
 
 /// One connection over a stream.
 #[derive(Drop)]
-pub struct TcpLink<S: Read + Write + Drop> {
+pub struct TcpLink<S: Read + Write + OpenStream + Drop> {
     stream: S,
+    waits: Waits,
     faults: u64,
 }
 
-impl<S: Read + Write + Drop> TcpLink<S> {
-    /// No read or write failed so far.
-    pub(crate) fn new(stream: S) -> TcpLink<S>
+impl<S: Read + Write + OpenStream + Drop> TcpLink<S> {
+    /// A link whose reads wait so long. No read or write failed so far.
+    pub(crate) fn new(stream: S, waits: Waits) -> TcpLink<S>
         ensures { ⟦<TcpLink<S> as Link>⟧.faults result ≡ 0 }
     {
-        TcpLink { stream, faults: 0 }
+        TcpLink {
+            stream,
+            waits,
+            faults: 0,
+        }
     }
 
     /// How many reads and writes failed.
@@ -43,6 +50,23 @@ fn read_some<S: Read>(stream: &mut S, into: &mut [u8]) -> io::Result<usize>
     Err(io::Error::from(ErrorKind::Interrupted))
 }
 
+/// One read that waits no longer than it may.
+fn read_in_time<S: Read + OpenStream>(
+    stream: &mut S,
+    waits: &mut Waits,
+    into: &mut [u8],
+) -> io::Result<usize>
+    ensures { IfOk result (λ n. n ≤ length into.old) }
+{
+    if let Some(wait) = waits.next {
+        stream.set_read_timeout(Some(wait))?;
+        waits.next = None;
+    }
+    let n = read_some(stream, into)?;
+    waits.hear(n);
+    Ok(n)
+}
+
 /// One write of at least one byte, again where a signal breaks it off.
 fn write_some<S: Write>(stream: &mut S, piece: &[u8]) -> io::Result<usize>
     ensures some { IfOk result (λ n. 0 < n) }
@@ -58,7 +82,7 @@ fn write_some<S: Write>(stream: &mut S, piece: &[u8]) -> io::Result<usize>
     Err(io::Error::from(ErrorKind::Interrupted))
 }
 
-impl<S: Read + Write + Drop> Link for TcpLink<S> {
+impl<S: Read + Write + OpenStream + Drop> Link for TcpLink<S> {
     ghost faults = { λ l. l.faults };
 
     ghost told = { λ l. None };
@@ -68,7 +92,8 @@ impl<S: Read + Write + Drop> Link for TcpLink<S> {
     ghost sure = { λ l. 0 };
 
     fn read(&mut self, into: &mut [u8]) -> Result<usize, Failed> {
-        counted(&mut self.faults, read_some(&mut self.stream, into))
+        let answer = read_in_time(&mut self.stream, &mut self.waits, into);
+        counted(&mut self.faults, answer)
     }
 
     fn write(&mut self, piece: &[u8]) -> Result<usize, Failed> {
