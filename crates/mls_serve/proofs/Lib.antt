@@ -4,3 +4,5 @@ pub mod Steps
 pub mod Openings
 pub mod Connections
 pub mod Acting
+pub mod Short
+pub mod Early

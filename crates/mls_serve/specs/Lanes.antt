@@ -179,3 +179,18 @@ pub record StoppedLate (fault : LaneFault) (s : Sizes) (lane : ℕ) (old new : T
 
 abbrev pub IsStopped : LaneFault → Sizes → (lane : ℕ) → Talking → Talking → Type 0
 IsStopped fault s lane old new = StoppedEarly fault old new ⊎ StoppedLate fault s lane old new
+
+-- an end that isn't for as many bytes as a lane may give
+abbrev pub IsShort : LaneEnd → Type 0
+IsShort ends.Clean = ⊤
+IsShort (ends.Cut at) = ⊤
+IsShort (ends.BadKind at) = ⊤
+IsShort (ends.BadLength at) = ⊤
+IsShort (ends.Fault at) = ⊤
+IsShort (ends.Full at) = ⊥
+
+-- a connection that has no lane line isn't ended for as many bytes
+abbrev pub IsShortIfEarly : Served → Type 0
+IsShortIfEarly (served.Lane line) = ⊤
+IsShortIfEarly (served.Refused reason value) = ⊤
+IsShortIfEarly (served.Early end) = IsShort end

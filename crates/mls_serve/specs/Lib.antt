@@ -6,3 +6,4 @@ pub mod Openings
 pub mod Lanes
 pub mod Serving
 pub mod Watching
+pub mod MemPosts

@@ -3,7 +3,7 @@
 ghost use Rattle.std.specs.Prelude.{◌≡◌, ℕ, ◌+◌, ◌<◌, ◌≤◌, ◌^◌, length, IfOk, IfErr, OnOk, OnErr};
 ghost use Rattle.mls_serve.specs.Posts.{PostedFront, posted, end_posts, CountsPost};
 ghost use Rattle.mls_serve.specs.Readings.{most_bytes};
-ghost use Rattle.mls_serve.specs.Lanes.{LaneServed, LaneStopped, WelcomesBelow, GreetedServed, GreetedStopped, IsServed, IsStopped, talking};
+ghost use Rattle.mls_serve.specs.Lanes.{LaneServed, LaneStopped, WelcomesBelow, GreetedServed, GreetedStopped, IsServed, IsStopped, IsShortIfEarly, talking};
 
 use crate::frames::serve_frames;
 use crate::opening::{Opening, answer_bytes, hear_first};
@@ -143,6 +143,8 @@ pub fn serve_lane<L: Link, P: Post>(
     ensures stopped { IfErr result (λ fault. IsStopped fault shape.now lane
         (talking (L.told link.old) (L.faults link.old) (P.told post.old))
         (talking (L.told link.new) (L.faults link.new) (P.told post.new))) }
+    // `Early` never has `Full`: a first frame shows before a lane is that long.
+    ensures short { IfOk result (λ served. IsShortIfEarly served) }
     ensures faults { CountsPost result (P.faults post.old) (P.faults post.new) }
     ensures ranks { P.ranks post.new ≡ P.ranks post.old }
     ensures lanes { P.lanes post.new ≡ P.lanes post.old }

@@ -3,7 +3,9 @@
 
 mod frames;
 mod lane;
+mod mem_post;
 mod opening;
+mod owning;
 mod post;
 mod reading;
 mod served;
@@ -12,6 +14,7 @@ mod taking;
 mod watched;
 
 pub use lane::serve_lane;
+pub use mem_post::MemPost;
 pub use post::{Note, Post};
 pub use served::{LaneFault, Served};
 pub use watched::{WatchCell, Watched};
