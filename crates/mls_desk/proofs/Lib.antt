@@ -1,0 +1,5 @@
+pub mod Elements
+pub mod Naming
+pub mod Saving
+pub mod Taking
+pub mod Closing
