@@ -1,0 +1,5 @@
+pub mod Doorways
+pub mod Lines
+pub mod Boards
+pub mod Settled
+pub mod Ends
