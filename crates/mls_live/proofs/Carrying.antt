@@ -13,7 +13,7 @@ use Rattle.mls_wire.specs.Sessions.{pairs_of}
 use Rattle.mls_group.specs.Groups.{CountsDoor, CountsLinks, IsInner, MayTell, Stops}
 use Rattle.mls_group.specs.declared.faults.GroupFault.{GroupFault}
 use Rattle.mls_group.specs.declared.faults.GroupFault.TheVariants as why
-use Rattle.mls_live.specs.Doors.{DoorState}
+use Rattle.mls_served.specs.Doors.{DoorState}
 use Rattle.mls_live.specs.Group.{Sending, Sends, right_sending, sending_in, sent_status}
 use Rattle.mls_live.specs.Answers.{Answers, Carries, HasEnough, IsUnbroken, Reaches}
 

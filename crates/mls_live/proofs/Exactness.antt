@@ -3,7 +3,7 @@ use Rattle.std.proofs.Common.{◌≡◌, IsTrue, Bool, List, Some, Result, Ok, E
 use Rattle.mls_result.specs.declared.status.Status.{Status}
 use Rattle.mls_result.specs.declared.status.Status.TheVariants as status
 use Rattle.mls_wire.specs.Doors.{Closed}
-use Rattle.mls_live.specs.Doors.{DoorState}
+use Rattle.mls_served.specs.Doors.{DoorState}
 use Rattle.mls_live.specs.Group.{Sending}
 use Rattle.mls_live.specs.Answers.{AllWelcome, Answers, Exactly, IsAnswered, IsAsked, IsOutcome, IsRefusal, IsRight, IsUnbroken}
 use Rattle.mls_live.proofs.Server.{never_refused, never_peer}
@@ -29,6 +29,9 @@ told_right sound right old new (status.TooLong file) is h = h.0
 told_right sound right old new (status.Events line) is h = h.0
 told_right sound right old new (status.NoGroup group) is h = h.0
 told_right sound right old new status.TooLarge is h = h.0
+told_right sound right old new status.RunnerFault is h = h.0
+told_right sound right old new (status.MarksDiffer other plane group first_has) is h = h.0
+told_right sound right old new (status.OldRanks ranks) is h = h.0
 
 same_refusal : (a b : Status) → ◌≡◌ {A = Result Sending Status} (Err a) (Err b) → a ≡ b
 same_refusal a b e = cc
@@ -60,6 +63,9 @@ answered sound right old new refusal (status.TooLong file) h e = by_refusal soun
 answered sound right old new refusal (status.Events line) h e = by_refusal sound right old new refusal (status.Events line) tt h e
 answered sound right old new refusal (status.NoGroup group) h e = by_refusal sound right old new refusal (status.NoGroup group) tt h e
 answered sound right old new refusal status.TooLarge h e = by_refusal sound right old new refusal status.TooLarge tt h e
+answered sound right old new refusal status.RunnerFault h e = by_refusal sound right old new refusal status.RunnerFault tt h e
+answered sound right old new refusal (status.MarksDiffer other plane group first_has) h e = by_refusal sound right old new refusal (status.MarksDiffer other plane group first_has) tt h e
+answered sound right old new refusal (status.OldRanks ranks) h e = by_refusal sound right old new refusal (status.OldRanks ranks) tt h e
 
 -- a refusal comes exactly where it is right
 pub exact : (sound : Bool) (right : Result Sending Status) (old new : DoorState) (s refusal : Status) → IsRefusal refusal → Answers sound right old new s → Exactly right refusal s
@@ -100,6 +106,9 @@ asked sound right old new (status.TooLong file) is whole h = asked_refusal right
 asked sound right old new (status.Events line) is whole h = asked_refusal right (status.Events line) h.0
 asked sound right old new (status.NoGroup group) is whole h = asked_refusal right (status.NoGroup group) h.0
 asked sound right old new status.TooLarge is whole h = asked_refusal right status.TooLarge h.0
+asked sound right old new status.RunnerFault is whole h = asked_refusal right status.RunnerFault h.0
+asked sound right old new (status.MarksDiffer other plane group first_has) is whole h = asked_refusal right (status.MarksDiffer other plane group first_has) h.0
+asked sound right old new (status.OldRanks ranks) is whole h = asked_refusal right (status.OldRanks ranks) h.0
 
 refused_right : (right : Result Sending Status) (s : Status) → IsRight right → right ≡ Err s → ⊥
 refused_right right s there e = nothing_right right s _ there e
@@ -126,3 +135,6 @@ completed sound right old new before (status.TooLong file) there read door link 
 completed sound right old new before (status.Events line) there read door link was all h = absurd (refused_right right (status.Events line) there h.0)
 completed sound right old new before (status.NoGroup group) there read door link was all h = absurd (refused_right right (status.NoGroup group) there h.0)
 completed sound right old new before status.TooLarge there read door link was all h = absurd (refused_right right status.TooLarge there h.0)
+completed sound right old new before status.RunnerFault there read door link was all h = absurd (refused_right right status.RunnerFault there h.0)
+completed sound right old new before (status.MarksDiffer other plane group first_has) there read door link was all h = absurd (refused_right right (status.MarksDiffer other plane group first_has) there h.0)
+completed sound right old new before (status.OldRanks ranks) there read door link was all h = absurd (refused_right right (status.OldRanks ranks) there h.0)

@@ -5,5 +5,6 @@ pub mod Carrying
 pub mod Server
 pub mod Exactness
 pub mod Runs
+pub mod Served
 pub mod Tasks
 pub mod Wording

@@ -29,7 +29,8 @@ use Rattle.mls_load.specs.Refusals.{FileState}
 use Rattle.mls_pool.specs.declared.faults.PoolFault.{PoolFault}
 use Rattle.mls_pool.specs.Pools.{AreBooks, AreClean, IsBookOf, IsEnded, IsReported, IsShown, TapeBook, journals, lanes_of}
 use Rattle.mls_live.specs.Ending.{AreAllSure, AreOnTape, Ends, IsKept, IsSaved, IsSpoiled, IsUnsaved, OfBooks, own_keepers}
-use Rattle.mls_live.specs.Running.{EndsPool, HasFaulted, HasGivenBad, HoldsLast, Ran, RunAnswers, WasRun, ended_status, pool_status, running_of}
+use Rattle.mls_desk.specs.Ends.{HasFaulted, HasGivenBad}
+use Rattle.mls_live.specs.Running.{EndsPool, HoldsLast, Ran, RunAnswers, WasRun, ended_status, pool_status, running_of}
 use Rattle.mls_live.specs.Answers.{IsUncalled}
 use Rattle.mls_live.proofs.Standing.{all_at, journal_history}
 

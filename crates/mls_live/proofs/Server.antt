@@ -13,7 +13,8 @@ use Rattle.mls_wire.specs.declared.reply.Reply.TheVariants as replies
 use Rattle.mls_group.specs.Pairs.{IsPeer, IsWelcome, MayWrite}
 use Rattle.mls_group.specs.Groups.{Failed, MayTell, ServedAll, Serves, StoppedAt, Stops, TellsOn, WasCut, is_last}
 use Rattle.mls_group.specs.declared.faults.GroupFault.TheVariants as why
-use Rattle.mls_live.specs.Doors.{DoorState, LastClosed}
+use Rattle.mls_live.specs.Doors.{LastClosed}
+use Rattle.mls_served.specs.Doors.{DoorState}
 use Rattle.mls_live.specs.Group.{Sending}
 use Rattle.mls_live.specs.Answers.{AllWelcome, Answers, SaysServer, WasNoAnswer, WasRefusal, WasWelcome}
 
@@ -155,6 +156,9 @@ module _ (old new : DoorState) (before after : List Closed) (was : old.closed �
     says sound right (status.Events line) h = refused_says h.1
     says sound right (status.NoGroup group) h = refused_says h.1
     says sound right status.TooLarge h = refused_says h.1
+    says sound right status.RunnerFault h = refused_says h.1
+    says sound right (status.MarksDiffer other plane group first_has) h = refused_says h.1
+    says sound right (status.OldRanks ranks) h = refused_says h.1
 
 same_refuse : (a b c d : ℕ) → ◌≡◌ {A = Option Reply} (Some (replies.Refused a b)) (Some (replies.Refused c d)) → status.Refused a b ≡ status.Refused c d
 same_refuse a b c d e = cc
@@ -180,6 +184,9 @@ refusal_is (status.TooLong file) c reason value h e = absurd h
 refusal_is (status.Events line) c reason value h e = absurd h
 refusal_is (status.NoGroup group) c reason value h e = absurd h
 refusal_is status.TooLarge c reason value h e = absurd h
+refusal_is status.RunnerFault c reason value h e = absurd h
+refusal_is (status.MarksDiffer other plane group first_has) c reason value h e = absurd h
+refusal_is (status.OldRanks ranks) c reason value h e = absurd h
 
 -- where it had no answer, that is answered, or memory is wanting
 peer_is : (s : Status) (c : Closed) → Says s c → WasNoAnswer c → (s ≡ status.Peer) ⊎ (s ≡ status.Memory)
@@ -202,6 +209,9 @@ peer_is (status.TooLong file) c h e = absurd h
 peer_is (status.Events line) c h e = absurd h
 peer_is (status.NoGroup group) c h e = absurd h
 peer_is status.TooLarge c h e = absurd h
+peer_is status.RunnerFault c h e = absurd h
+peer_is (status.MarksDiffer other plane group first_has) c h e = absurd h
+peer_is (status.OldRanks ranks) c h e = absurd h
 
 -- the last link of a refused sending
 refused_last : (s : Sending) (reason value : ℕ) (before after : List Closed) → StoppedAt (why.Refused reason value) s.study s.group s.life (pairs_of s.study.sizes) before after → LastClosed (WasRefusal reason value) before after

@@ -8,7 +8,7 @@ use Rattle.mls_result.specs.declared.status.Status.TheVariants as status
 use Rattle.mls_load.specs.Inputs.{◌>>=◌}
 use Rattle.mls_load.specs.Refusals.{FileState}
 use Rattle.mls_live.specs.declared.words.Words.{Words}
-use Rattle.mls_live.specs.Doors.{DoorState}
+use Rattle.mls_served.specs.Doors.{DoorState}
 use Rattle.mls_live.specs.Tasks.{CarriesOut, Task, TellsRight}
 use Rattle.mls_live.specs.Ideal.{command_or_usage, right_command, ideal}
 use Rattle.mls_live.specs.Words.{words_of}
@@ -35,7 +35,6 @@ carried_words words command files files' out out' keepers keepers' door door' s 
   checkpoint_bad = h.checkpoint_bad;
   quiet = h.quiet;
   saves = h.saves;
-  accepts = h.accepts;
 }
 
 -- words that are no command

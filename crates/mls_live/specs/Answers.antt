@@ -11,7 +11,8 @@ use Rattle.mls_wire.specs.Sessions.{reply_in}
 use Rattle.mls_wire.specs.declared.reply.Reply.TheVariants as replies
 use Rattle.mls_group.specs.Pairs.{IsPeer, IsWelcome}
 use Rattle.mls_group.specs.declared.faults.GroupFault.TheVariants as group
-use Rattle.mls_live.specs.Doors.{DoorState, LastClosed}
+use Rattle.mls_live.specs.Doors.{LastClosed}
+use Rattle.mls_served.specs.Doors.{DoorState}
 use Rattle.mls_live.specs.Group.{Sending, Enough, Left, Sent}
 
 -- After Done the group was sent whole, after a fault on the way as the fault says, where there is something to send. After every
@@ -141,4 +142,5 @@ IsUncalled status.WriteFault = ⊥
 IsUncalled (status.KeeperFault rank) = ⊥
 IsUncalled (status.CheckpointBad rank at why) = ⊥
 IsUncalled status.Memory = ⊥
+IsUncalled status.DoorFault = ⊥
 IsUncalled answer = ⊤

@@ -10,7 +10,7 @@ use Rattle.mls_wire.specs.Sessions.{pairs_of}
 use Rattle.mls_group.specs.Groups.{AreEnough, CountsDoor, CountsLinks, GroupLeft, IsInner, ServedAll, TellsOn}
 use Rattle.mls_group.specs.declared.faults.GroupFault.{GroupFault}
 use Rattle.mls_group.specs.declared.faults.GroupFault.TheVariants as group
-use Rattle.mls_live.specs.Doors.{DoorState}
+use Rattle.mls_served.specs.Doors.{DoorState}
 
 -- what is sent: a life of a group of a study
 pub record Sending : Type 0 where

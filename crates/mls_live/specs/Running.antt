@@ -1,6 +1,6 @@
 -- What is right of a run, and what it leaves of the sink, the files and the keepers.
 use Rattle.std.specs.Prelude.{◌≡◌, ℕ, ◌≤◌, ◌<◌, true, List, Option, Some, None, IsSome, IsTrue, Result, Ok, Err, ◌++◌, ◌⊎◌, ⊤}
-use Rattle.mls_base.specs.Told.{Names, Rose}
+use Rattle.mls_base.specs.Told.{Names}
 use Rattle.mls_text.specs.Writing.{SinkState, Wrote, FailedAfter}
 use Rattle.mls_model.specs.Numbers.{element}
 use Rattle.mls_model.specs.Studies.{Sizes, Study}
@@ -23,6 +23,7 @@ use Rattle.mls_launch.specs.declared.faults.OutFault.TheVariants as fault
 use Rattle.mls_load.specs.Inputs.{◌>>=◌, right_study}
 use Rattle.mls_load.specs.Refusals.{FileState}
 use Rattle.mls_load.specs.Tapes.{right_lanes}
+use Rattle.mls_desk.specs.Ends.{HasFaulted, HasGivenBad}
 use Rattle.mls_pool.specs.declared.faults.PoolFault.{PoolFault}
 use Rattle.mls_pool.specs.Pools.{TapeBook, journals}
 use Rattle.mls_live.specs.Ending.{Ends, IsSaved, IsSpoiled, IsUnsaved, OfBooks, OfRun, own_keepers}
@@ -60,17 +61,6 @@ pub record WasRun (r : Running) (old new : List KeeperState) (saves goes : List 
   pub plain : IsOrderFree r.study.sizes r.lanes → goes (text_with_plain_lines r.study r.lanes orders)
   pub saved : saves (schedule_text orders)
   pub keep : (rank : ℕ) → rank < r.study.sizes.ranks → AtRank rank old new (HoldsLast r.study.sizes rank (histories_of r.lanes orders rank))
-
--- A call of the keeper failed. It was not sound.
-pub record HasFaulted (old new : KeeperState) : Type 0 where
-  pub rose : Rose old.faults new.faults
-  pub unsound : IsTrue old.sound → ⊥
-
--- The keeper gave no checkpoint. It doesn't tell what it holds; where it told, a call of it failed, and it was not sound.
-pub record HasGivenBad (old new : KeeperState) : Type 0 where
-  pub silent : new.held ≡ None
-  pub rose : IsSome old.held → Rose old.faults new.faults
-  pub unsound : IsSome old.held → IsTrue old.sound → ⊥
 
 -- After Done the text went out and then the schedule was saved under its name. After a write fault a front of the text went out and
 -- nothing was saved, or the whole text did and the save failed. After the fault of a keeper nothing went out. Where memory is wanting

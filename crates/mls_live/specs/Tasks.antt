@@ -1,5 +1,5 @@
 -- What words ask for, and how an answer and what stands outside agree with it.
-use Rattle.std.specs.Prelude.{◌≡◌, ℕ, ◌≤◌, true, List, length, Some, IsSome, IsTrue, Result, Ok, Err, ◌⊎◌, ⊤}
+use Rattle.std.specs.Prelude.{◌≡◌, ℕ, ◌≤◌, Bool, true, List, length, Some, IsSome, IsTrue, Result, Ok, Err, ◌⊎◌, ⊤}
 use Rattle.mls_base.specs.Told.{Names, Rose}
 use Rattle.mls_text.specs.Writing.{SinkState}
 use Rattle.mls_model.specs.Numbers.{element}
@@ -10,16 +10,19 @@ use Rattle.mls_book.specs.Keepers.{KeeperState, AtRank}
 use Rattle.mls_result.specs.declared.status.Status.{Status}
 use Rattle.mls_result.specs.declared.status.Status.TheVariants as status
 use Rattle.mls_load.specs.Refusals.{FileState}
-use Rattle.mls_wire.specs.Doors.{Awaited}
-use Rattle.mls_live.specs.Doors.{DoorState}
+use Rattle.mls_served.specs.Doors.{DoorState}
+use Rattle.mls_server.specs.Ends.{IsSureDoor}
+use Rattle.mls_served.specs.Serving.{Serving, Serves}
 use Rattle.mls_live.specs.Group.{Sending, Enough}
-use Rattle.mls_live.specs.Running.{Running, Ran, HasFaulted, HasGivenBad}
+use Rattle.mls_desk.specs.Ends.{HasFaulted, HasGivenBad}
+use Rattle.mls_live.specs.Running.{Running, Ran}
 use Rattle.mls_live.specs.Answers.{Answers, IsAsked, IsDoneOrMemory, IsUnbroken}
 
--- to send a life of a group, or to run a tape
+-- to send a life of a group, to run a tape, or to serve connections
 pub data Task : Type 0 where
   sends : Sending → Task
   runs : Running → Task
+  serves : Serving → Task
 
 abbrev pub as_sends : Result Sending Status → Result Task Status
 as_sends (Ok s) = Ok (sends s)
@@ -29,17 +32,28 @@ abbrev pub as_runs : Result Running Status → Result Task Status
 as_runs (Ok r) = Ok (runs r)
 as_runs (Err refusal) = Err refusal
 
+abbrev pub as_serves : Result Serving Status → Result Task Status
+as_serves (Ok v) = Ok (serves v)
+as_serves (Err refusal) = Err refusal
+
+-- How a server answers whose study is loaded first. A read fails only where the files are not sound.
+abbrev pub TellsServed : Serving → (sound : Bool) → (out out' : SinkState) (keepers keepers' : List KeeperState) (door door' : DoorState) → Status → Type 0
+TellsServed v sound out out' keepers keepers' door door' status.ReadFault = (IsTrue sound → ⊥) × ((out' ≡ out) × ((keepers' ≡ keepers) × (door' ≡ door)))
+TellsServed v sound out out' keepers keepers' door door' answer = Serves v out out' keepers keepers' door door' answer
+
 -- How a command answers over files that tell what they hold: as a sending of what is to be sent, as a run of what is to be run with
--- the door as before, or as a refusal, after which the door is as before.
+-- the door as before, as a server of what is to be served, or as a refusal, after which the door is as before.
 abbrev pub TellsRight : Result Task Status → (files files' : FileState) (out out' : SinkState) (keepers keepers' : List KeeperState) (door door' : DoorState) → Status → Type 0
 TellsRight (Ok (sends s)) files files' out out' keepers keepers' door door' answer = Answers files.sound (Ok s) door door' answer
 TellsRight (Ok (runs r)) files files' out out' keepers keepers' door door' answer = Ran r files files' out out' keepers keepers' answer × (door' ≡ door)
+TellsRight (Ok (serves v)) files files' out out' keepers keepers' door door' answer = TellsServed v files.sound out out' keepers keepers' door door' answer
 TellsRight (Err refusal) files files' out out' keepers keepers' door door' answer = Answers files.sound (Err refusal) door door' answer
 
--- what is sent is sure to find its links, if something is
-abbrev pub HasLinks : Result Task Status → List Awaited → Type 0
-HasLinks (Ok (sends s)) awaited = Enough s awaited
-HasLinks right awaited = ⊤
+-- what is sent is sure to find its links, and a server its connections
+abbrev pub HasLinks : Result Task Status → DoorState → Type 0
+HasLinks (Ok (sends s)) door = Enough s door.awaited
+HasLinks (Ok (serves v)) door = IsTrue door.sound × IsSureDoor door.accepts door.awaited v.connections
+HasLinks right door = ⊤
 
 -- each of the keepers is sound and tells what it holds
 abbrev pub AreSound : List KeeperState → Type 0
@@ -56,15 +70,22 @@ pub record IsSureRun (r : Running) (out : SinkState) (keepers : List KeeperState
 
 abbrev pub HasEnoughToRun : Result Task Status → SinkState → List KeeperState → Type 0
 HasEnoughToRun (Ok (runs r)) out keepers = IsSureRun r out keepers
+HasEnoughToRun (Ok (serves v)) out keepers = AreSound keepers
 HasEnoughToRun right out keepers = ⊤
+
+-- All was served, or a write failed, which comes only where the sink took fewer bytes for sure than the text has, or memory is
+-- wanting.
+abbrev pub IsServedOrUnsure : Status → Type 0
+IsServedOrUnsure answer = (answer ≡ status.Done) ⊎ ((answer ≡ status.WriteFault) ⊎ (answer ≡ status.Memory))
 
 -- the answer that is asked for, or memory is wanting
 abbrev pub IsAskedTask : Result Task Status → Status → Type 0
 IsAskedTask (Ok (sends s)) answer = IsAsked (Ok s) answer
 IsAskedTask (Ok (runs r)) answer = IsDoneOrMemory answer
+IsAskedTask (Ok (serves v)) answer = IsServedOrUnsure answer
 IsAskedTask (Err refusal) answer = (answer ≡ refusal) ⊎ (answer ≡ status.Memory)
 
--- there is something to send; there is something to run
+-- there is something to send; to run; to serve
 abbrev pub IsSending : Result Task Status → Type 0
 IsSending (Ok (sends s)) = ⊤
 IsSending right = ⊥
@@ -72,6 +93,10 @@ IsSending right = ⊥
 abbrev pub IsRunning : Result Task Status → Type 0
 IsRunning (Ok (runs r)) = ⊤
 IsRunning right = ⊥
+
+abbrev pub IsServing : Result Task Status → Type 0
+IsServing (Ok (serves v)) = ⊤
+IsServing right = ⊥
 
 -- after these answers alone something may have been written
 abbrev pub IsQuiet : Status → Type 0
@@ -96,4 +121,3 @@ pub record CarriesOut (asked : Names → Result Task Status) (files files' : Fil
   pub checkpoint_bad : (rank at : ℕ) (why : CkptWhy) → answer ≡ status.CheckpointBad rank at why → AtRank rank keepers keepers' HasGivenBad
   pub quiet : IsQuiet answer → out' ≡ out
   pub saves : (answer ≡ status.WriteFault → ⊥) → files'.save_faults ≡ files.save_faults
-  pub accepts : door'.accepts ≡ door.accepts

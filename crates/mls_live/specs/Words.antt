@@ -1,5 +1,5 @@
 -- Which words are a command of melissad, with the names and numbers in their places.
-use Rattle.std.specs.Prelude.{ℕ, ◌^◌, cond, List, [], ◌∷◌, bytes_eq, codes, nat_lt, Option, Some, None, Result}
+use Rattle.std.specs.Prelude.{ℕ, ◌^◌, ◌≤◌, ⊤, cond, List, [], ◌∷◌, bytes_eq, codes, nat_lt, Option, Some, None, Result}
 use Rattle.std.specs.List.{list_all}
 use Rattle.std.specs.Option.{option_and_then}
 use Rattle.mls_text.specs.Decimals.{number_below}
@@ -53,3 +53,8 @@ words_of (command ∷ names) = cond (list_all is_word names) (command_in command
 -- What was read is the command that the words are.
 abbrev pub Reads : Result Words WordsFault → Option Words → Type 0
 Reads result right = ReadsAs (λ (words : Words). words) result right
+
+-- a server has at most so many connections
+abbrev pub FewServed : Words → Type 0
+FewServed (Serve study addr lanes) = lanes ≤ 65535
+FewServed command = ⊤

@@ -2,7 +2,7 @@
 
 ghost use Rattle.std.specs.Prelude.{◌≡◌, ◌<◌, true};
 ghost use Rattle.mls_load.specs.Refusals.{seen};
-ghost use Rattle.mls_live.specs.Doors.{door_seen};
+ghost use Rattle.mls_served.specs.Doors.{door_seen};
 ghost use Rattle.mls_live.specs.Group.{Sends, right_sending, sending_in, sent_status};
 ghost use Rattle.mls_live.specs.Answers.{Carries, Reaches};
 

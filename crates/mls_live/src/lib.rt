@@ -6,6 +6,7 @@ mod ending;
 mod group;
 mod program;
 mod running;
+mod serving;
 mod words;
 
 pub use commands::melissad;

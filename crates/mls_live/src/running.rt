@@ -10,7 +10,7 @@ ghost use Rattle.mls_pool.specs.Pools.{IsReported, TapeBook};
 ghost use Rattle.mls_live.specs.Running.{EndsPool, Ran, ended_status, pool_status, right_running, running_of};
 ghost use Rattle.mls_live.specs.Ending.{AreOnTape};
 ghost use Rattle.mls_live.specs.Answers.{IsUncalled};
-ghost use Rattle.mls_live.specs.Doors.{DoorState};
+ghost use Rattle.mls_served.specs.Doors.{DoorState};
 ghost use Rattle.mls_live.specs.Tasks.{CarriesOut, as_runs};
 
 use crate::ending::{end_books, keepers_of};

@@ -1,8 +1,8 @@
 //! Which words are a command.
 
-ghost use Rattle.std.specs.Prelude.{◌≡◌, map, string_bytes};
+ghost use Rattle.std.specs.Prelude.{◌≡◌, ◌≤◌, IfOk, map, string_bytes};
 ghost use Rattle.mls_load.specs.Words.{ReadsNumber};
-ghost use Rattle.mls_live.specs.Words.{number_within, run_in, serve_in, group_in, poll_in, command_in, words_of, Reads};
+ghost use Rattle.mls_live.specs.Words.{number_within, run_in, serve_in, group_in, poll_in, command_in, words_of, FewServed, Reads};
 
 use mls_load::{WordsFault, are_words};
 use mls_study::Name;
@@ -53,7 +53,8 @@ const LAST_LIFE: u32 = 4_294_967_295;
 
 /// A number from `least` to `most`.
 fn number_within(word: &str, least: u32, most: u32) -> Result<u32, WordsFault>
-    ensures { ReadsNumber result (number_within least most word.now) }
+    ensures reads { ReadsNumber result (number_within least most word.now) }
+    ensures most { IfOk result (λ n. n ≤ most) }
 {
     match small_canonical_number(word.as_bytes()) {
         Some(number) => {
@@ -71,7 +72,8 @@ fn number_within(word: &str, least: u32, most: u32) -> Result<u32, WordsFault>
 
 /// The words behind `run`.
 fn run_in(alloc: Global, names: &[String]) -> Result<Words, WordsFault>
-    ensures { Reads result (run_in (map string_bytes names.now)) }
+    ensures reads { Reads result (run_in (map string_bytes names.now)) }
+    ensures few { IfOk result FewServed }
 {
     match names {
         [study, tape, workers, schedule] => {
@@ -92,7 +94,8 @@ fn run_in(alloc: Global, names: &[String]) -> Result<Words, WordsFault>
 
 /// The words behind `serve`.
 fn serve_in(alloc: Global, names: &[String]) -> Result<Words, WordsFault>
-    ensures { Reads result (serve_in (map string_bytes names.now)) }
+    ensures reads { Reads result (serve_in (map string_bytes names.now)) }
+    ensures few { IfOk result FewServed }
 {
     match names {
         [study, addr, lanes] => {
@@ -107,7 +110,8 @@ fn serve_in(alloc: Global, names: &[String]) -> Result<Words, WordsFault>
 
 /// The words behind `group`.
 fn group_in(alloc: Global, names: &[String]) -> Result<Words, WordsFault>
-    ensures { Reads result (group_in (map string_bytes names.now)) }
+    ensures reads { Reads result (group_in (map string_bytes names.now)) }
+    ensures few { IfOk result FewServed }
 {
     match names {
         [study, group, life, addr] => {
@@ -128,7 +132,8 @@ fn group_in(alloc: Global, names: &[String]) -> Result<Words, WordsFault>
 
 /// The words behind `poll`.
 fn poll_in(alloc: Global, names: &[String]) -> Result<Words, WordsFault>
-    ensures { Reads result (poll_in (map string_bytes names.now)) }
+    ensures reads { Reads result (poll_in (map string_bytes names.now)) }
+    ensures few { IfOk result FewServed }
 {
     match names {
         [study, addr, lanes] => {
@@ -144,7 +149,8 @@ fn poll_in(alloc: Global, names: &[String]) -> Result<Words, WordsFault>
 /// The command of a name, with the words behind it.
 #[tactic(auto, unfolding(crate::specs::Words::command_in))]
 fn command_in(alloc: Global, command: &str, names: &[String]) -> Result<Words, WordsFault>
-    ensures { Reads result (command_in command.now (map string_bytes names.now)) }
+    ensures reads { Reads result (command_in command.now (map string_bytes names.now)) }
+    ensures few { IfOk result FewServed }
 {
     match command {
         "run" => return run_in(alloc, names),
@@ -162,7 +168,8 @@ fn command_in(alloc: Global, command: &str, names: &[String]) -> Result<Words, W
 /// range. `Memory` comes only for words that are one.
 #[tactic(auto, unfolding(crate::specs::Words::words_of))]
 pub fn read_words(alloc: Global, words: &[String]) -> Result<Words, WordsFault>
-    ensures { Reads result (words_of (map string_bytes words.now)) }
+    ensures reads { Reads result (words_of (map string_bytes words.now)) }
+    ensures few { IfOk result FewServed }
 {
     match words {
         [command, names @ ..] => {

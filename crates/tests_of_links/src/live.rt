@@ -3,6 +3,7 @@
 ghost use Rattle.std.specs.Prelude.{◌≡◌, vec_len, IfOk};
 
 use crate::group::{REFUSE, SENT, STUDY, WELCOME, door_of, written};
+use mls_base::clock::FixedClock;
 use mls_base::gate::OpenGate;
 use mls_base::memory::{MemFiles, MemKeeper, MemSink};
 use mls_live::melissad;
@@ -56,6 +57,7 @@ fn run<R: Threads + Wait + Sync>(
         &mut sink,
         keepers,
         door,
+        FixedClock::new(Vec::new(alloc)),
         &OpenGate,
     );
     Ok((status.number(), door))
@@ -109,14 +111,22 @@ fn statuses_of_connections_have_texts(rt: HostRuntime) {
         value: 7,
     };
     let none = Status::NoGroup { group: 5 };
+    let differ = Status::MarksDiffer {
+        other: 3,
+        plane: 1,
+        group: 4,
+        first_has: true,
+    };
+    let old = Status::OldRanks { ranks: 65 };
     let texts = format!(in alloc;
-        "{refused}, {none}, {}, {}, {}, {}",
+        "{refused}, {none}, {}, {}, {}, {}, {}, {differ}, {old}",
         Status::DoorFault,
         Status::LinkFault,
         Status::Peer,
-        Status::TooLarge
+        Status::TooLarge,
+        Status::RunnerFault
     );
     let text =
-        "refused by server: reason 2 value 7, no such group: 5, cannot listen or connect, connection failed, unexpected answer, trial too large";
+        "refused by server: reason 2 value 7, no such group: 5, cannot listen or connect, connection failed, unexpected answer, trial too large, runner failed, marks differ: rank 0 and rank 3 at plane 1 group 4, cannot resume from 65 ranks";
     assert!(rt; texts.expect(&rt, "memory").as_str() == text);
 }

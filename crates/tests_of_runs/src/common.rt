@@ -2,6 +2,7 @@
 
 ghost use Rattle.std.specs.Prelude.{◌≡◌, vec_len, IfOk};
 
+use mls_base::clock::FixedClock;
 use mls_base::gate::Gate;
 use mls_base::memory::{MemFiles, MemKeeper, MemSink};
 use mls_base::outside::Keeper;
@@ -77,6 +78,7 @@ pub(crate) fn run<R: Threads + Wait + Sync, K: Keeper + Drop + Send, G: Gate + S
         &mut sink,
         keepers,
         door,
+        FixedClock::new(Vec::new(alloc)),
         gate,
     );
     let text = Vec::from_slice(alloc, sink.bytes())?;

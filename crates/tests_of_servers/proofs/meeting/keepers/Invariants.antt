@@ -1,0 +1,5 @@
+use Rattle.std.proofs.Common.{◌≡◌, ◌+◌, vec_len}
+use Rattle.tests_of_servers.proofs.meeting.keepers.Given as goal
+
+abbrev pub invariant-loop : goal.invariant-loop
+invariant-loop l = vec_len l.keepers ≡ l.counter + 2
