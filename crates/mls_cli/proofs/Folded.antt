@@ -20,8 +20,10 @@ use Rattle.mls_cli.specs.declared.refusal.Refusal.{Refusal}
 use Rattle.mls_cli.specs.declared.refusal.Refusal.TheVariants as refusal
 use Rattle.mls_cli.specs.declared.words.NamePair.{NamePair}
 use Rattle.mls_cli.specs.Answers.{AllSaved, Carries, HasAllGroups, MaybeSaved, MayRise, OfEnding, RoseAt, TellsRight, WriteFails, ending_at, ending_part}
-use Rattle.mls_cli.specs.Fold.{Ending, results, histograms, summary, Folded, asked_text, asked_fold, folded_text, folded_histories, fold_status}
-use Rattle.mls_cli.specs.Refusals.{FileState, IsRefused, Loads}
+use Rattle.mls_cli.specs.Fold.{Ending, results, histograms, summary, Folded, asked_text, folded_text, folded_histories, fold_status}
+use Rattle.mls_cli.specs.Tasks.{folding, fold_task, Saving, saving_of}
+use Rattle.mls_export.specs.Files.{FileState}
+use Rattle.mls_cli.specs.Refusals.{IsRefused, Loads}
 
 -- a refusal of the inputs is one of the text
 pub refused_text : (sound : Bool) (r : Refusal) (inputs : Result Folded Status) → IsRefused sound r inputs → IsRefused sound r (asked_text inputs)
@@ -35,9 +37,9 @@ refused_text sound (refusal.Events line) inputs is = ap asked_text is
 refused_text sound refusal.TooLarge inputs is = ap asked_text is
 
 -- what is right of inputs that are known
-pub told_inputs : (saved : Option NamePair) (inputs : Result Folded Status) (f : Folded) (files files' : FileState) (o o' : SinkState) (keepers keepers' : List KeeperState) (s : Status) → inputs ≡ Ok f
-    → TellsRight saved (Ok (folded_text f)) (Some f) files files' o o' keepers keepers' s → TellsRight saved (asked_text inputs) (asked_fold inputs) files files' o o' keepers keepers' s
-told_inputs saved inputs f files files' o o' keepers keepers' s is h = subst (λ r. TellsRight saved (asked_text r) (asked_fold r) files files' o o' keepers keepers' s) (sym is) h
+pub told_inputs : (saved : Saving) (inputs : Result Folded Status) (f : Folded) (files files' : FileState) (o o' : SinkState) (keepers keepers' : List KeeperState) (s : Status) → inputs ≡ Ok f
+    → TellsRight saved (Ok (folded_text f)) (folding f) files files' o o' keepers keepers' s → TellsRight saved (asked_text inputs) (fold_task inputs) files files' o o' keepers keepers' s
+told_inputs saved inputs f files files' o o' keepers keepers' s is h = subst (λ r. TellsRight saved (asked_text r) (fold_task r) files files' o o' keepers keepers' s) (sym is) h
 
 -- what a fold says of some cores, by its ending
 abbrev pub FoldsSome : {B : Type 0} → Ending → Study → List Lane → Result B FoldFault → SinkState → SinkState → Type 0
@@ -81,25 +83,25 @@ pub record FoldSays {B : Type 0} (f : Folded) (answer : Result B FoldFault) (out
 
 -- all was saved that is to be before the fold, and no save failed
 pub record HasSaved (saved : Option NamePair) (f : Folded) (old new : FileState) : Type 0 where
-  pub all_saved : AllSaved saved (Some f) old.held new.held
+  pub all_saved : AllSaved (saving_of saved) (folding f) old.held new.held
   pub counts : new.save_faults ≡ old.save_faults
 
 pub none_saved : (f : Folded) (files : FileState) → HasSaved None f files files
 none_saved f files = record { all_saved = refl; counts = refl }
 
 -- what was saved after the inputs were loaded
-saved_since : (saved : Option NamePair) (f : Folded) (old between new : Option Names) → between ≡ old → AllSaved saved (Some f) between new → AllSaved saved (Some f) old new
-saved_since saved f old between new same h = subst (λ (o : Option Names). AllSaved saved (Some f) o new) same h
+saved_since : (saved : Option NamePair) (f : Folded) (old between new : Option Names) → between ≡ old → AllSaved (saving_of saved) (folding f) between new → AllSaved (saving_of saved) (folding f) old new
+saved_since saved f old between new same h = subst (λ (o : Option Names). AllSaved (saving_of saved) (folding f) o new) same h
 
-saved_maybe : (saved : Option NamePair) (f : Folded) (old new : Option Names) → AllSaved saved (Some f) old new → MaybeSaved saved (Some f) old new
+saved_maybe : (saved : Option NamePair) (f : Folded) (old new : Option Names) → AllSaved (saving_of saved) (folding f) old new → MaybeSaved (saving_of saved) (folding f) old new
 saved_maybe None f old new h = h
 saved_maybe (Some names) f old new h = inr h
 
-sink_fails : (saved : Option NamePair) (files files' : FileState) (o o' : SinkState) → Rose o.faults o'.faults → WriteFails saved files files' o o'
+sink_fails : (saved : Option NamePair) (files files' : FileState) (o o' : SinkState) → Rose o.faults o'.faults → WriteFails (saving_of saved) files files' o o'
 sink_fails None files files' o o' rose = rose
 sink_fails (Some names) files files' o o' rose = inl rose
 
-may_rise : (saved : Option NamePair) (before now : ℕ) → now ≡ before → MayRise saved before now
+may_rise : (saved : Option NamePair) (before now : ℕ) → now ≡ before → MayRise (saving_of saved) before now
 may_rise None before now same = same
 may_rise (Some names) before now same = omega (arith, same)
 
@@ -111,13 +113,14 @@ rose_own rank r h keepers keepers' same own = subst (λ k. RoseAt k keepers keep
 
 -- a command whose text was folded, after its inputs were loaded and all was saved that is to be
 pub carried_fold : {A B : Type 0} (saved : Option NamePair) (view : A → Folded) (loaded : Names → Result Folded Status) (old between new : FileState) (o o' : SinkState) (keepers keepers' : List KeeperState) (x : A) (answer : Result B FoldFault)
-    → Loads view loaded old between (Ok x) → HasSaved saved (view x) between new → FoldSays (view x) answer o o' keepers keepers' → Carries saved (λ held. asked_text (loaded held)) (λ held. asked_fold (loaded held)) old new o o' keepers keepers' (fold_status answer)
+    → Loads view loaded old between (Ok x) → HasSaved saved (view x) between new → FoldSays (view x) answer o o' keepers keepers' → Carries (saving_of saved) (λ held. asked_text (loaded held)) (λ held. fold_task (loaded held)) old new o o' keepers keepers' (fold_status answer)
 carried_fold saved view loaded old between new o o' keepers keepers' x (Ok done) h kept says = record {
-  told = λ held told. told_inputs saved (loaded held) (view x) old new o o' keepers keepers' status.Done (h.right held told) (record {
+  told = λ held told. told_inputs (saving_of saved) (loaded held) (view x) old new o o' keepers keepers' status.Done (h.right held told) (record {
     text = says.text;
     form = says.cores;
     leaves = says.after;
     stored = saved_since saved (view x) old.held between.held new.held h.same kept.all_saved;
+    exported = tt;
     all_groups = says.all_groups;
   });
   read_fault = λ e. absurd (cc);
@@ -127,11 +130,12 @@ carried_fold saved view loaded old between new o o' keepers keepers' x (Ok done)
   saves = kept.counts ∙ h.saves;
 }
 carried_fold saved view loaded old between new o o' keepers keepers' x (Err fold.WriteFault) h kept says = record {
-  told = λ held told. told_inputs saved (loaded held) (view x) old new o o' keepers keepers' status.WriteFault (h.right held told) (record {
+  told = λ held told. told_inputs (saving_of saved) (loaded held) (view x) old new o o' keepers keepers' status.WriteFault (h.right held told) (record {
     text = inr says.text;
     form = inr says.cores;
     leaves = inr says.after;
     stored = inr (saved_since saved (view x) old.held between.held new.held h.same kept.all_saved);
+    exported = tt;
     all_groups = says.all_groups;
   });
   read_fault = λ e. absurd (cc);
@@ -141,11 +145,12 @@ carried_fold saved view loaded old between new o o' keepers keepers' x (Err fold
   saves = may_rise saved old.save_faults new.save_faults (kept.counts ∙ h.saves);
 }
 carried_fold saved view loaded old between new o o' keepers keepers' x (Err (fold.KeeperFault rank)) h kept says = record {
-  told = λ held told. told_inputs saved (loaded held) (view x) old new o o' keepers keepers' (status.KeeperFault rank) (h.right held told) (record {
+  told = λ held told. told_inputs (saving_of saved) (loaded held) (view x) old new o o' keepers keepers' (status.KeeperFault rank) (h.right held told) (record {
     text = (tt, says.cores);
     form = tt;
     leaves = says.after;
     stored = saved_since saved (view x) old.held between.held new.held h.same kept.all_saved;
+    exported = tt;
     all_groups = tt;
   });
   read_fault = λ e. absurd (cc);
@@ -155,11 +160,12 @@ carried_fold saved view loaded old between new o o' keepers keepers' x (Err (fol
   saves = kept.counts ∙ h.saves;
 }
 carried_fold saved view loaded old between new o o' keepers keepers' x (Err (fold.CheckpointBad rank at why)) h kept says = record {
-  told = λ held told. told_inputs saved (loaded held) (view x) old new o o' keepers keepers' (status.CheckpointBad rank at why) (h.right held told) (record {
+  told = λ held told. told_inputs (saving_of saved) (loaded held) (view x) old new o o' keepers keepers' (status.CheckpointBad rank at why) (h.right held told) (record {
     text = (tt, says.cores);
     form = tt;
     leaves = says.after;
     stored = saved_since saved (view x) old.held between.held new.held h.same kept.all_saved;
+    exported = tt;
     all_groups = tt;
   });
   read_fault = λ e. absurd (cc);
@@ -169,11 +175,12 @@ carried_fold saved view loaded old between new o o' keepers keepers' x (Err (fol
   saves = kept.counts ∙ h.saves;
 }
 carried_fold saved view loaded old between new o o' keepers keepers' x (Err fold.Memory) h kept says = record {
-  told = λ held told. told_inputs saved (loaded held) (view x) old new o o' keepers keepers' status.Memory (h.right held told) (record {
+  told = λ held told. told_inputs (saving_of saved) (loaded held) (view x) old new o o' keepers keepers' status.Memory (h.right held told) (record {
     text = says.cores;
     form = tt;
     leaves = tt;
     stored = saved_maybe saved (view x) old.held new.held (saved_since saved (view x) old.held between.held new.held h.same kept.all_saved);
+    exported = tt;
     all_groups = tt;
   });
   read_fault = λ e. absurd (cc);

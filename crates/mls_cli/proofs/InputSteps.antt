@@ -5,7 +5,8 @@ use Rattle.mls_result.specs.declared.status.Status.{Status}
 use Rattle.mls_cli.specs.declared.refusal.Refusal.{Refusal}
 use Rattle.mls_cli.specs.declared.refusal.Refusal.TheVariants as refusal
 use Rattle.mls_cli.specs.Inputs.{◌>>=◌}
-use Rattle.mls_cli.specs.Refusals.{FileState, IsRefused, Agrees, Counts, IsOfContent, Leaves, Loads}
+use Rattle.mls_export.specs.Files.{FileState}
+use Rattle.mls_cli.specs.Refusals.{IsRefused, Agrees, Counts, IsOfContent, Leaves, Loads}
 
 -- a refusal of the first step is one of both
 pub refused_first : {A B : Type 0} (sound : Bool) (r : Refusal) (right : Result A Status) (next : A → Result B Status) → IsRefused sound r right → IsRefused sound r (right >>= next)

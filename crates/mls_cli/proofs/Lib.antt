@@ -3,6 +3,7 @@ pub mod InputSteps
 pub mod Carrying
 pub mod Folded
 pub mod SaveSteps
+pub mod Exported
 pub mod Wording
 pub mod Gathered
 mod PlainLines

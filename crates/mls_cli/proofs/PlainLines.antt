@@ -16,18 +16,18 @@ use Rattle.mls_result.specs.declared.status.Status.TheVariants as status
 use Rattle.mls_cli.specs.declared.words.Words.{Words}
 use Rattle.mls_cli.specs.declared.words.Words.TheVariants as words
 use Rattle.mls_cli.specs.Words.{words_of}
-use Rattle.mls_cli.specs.declared.words.NamePair.{NamePair}
 use Rattle.mls_cli.specs.Fold.{Ending, results, Folded, asked_text, asked_fold, ending_text, fold_over, folded_text, right_fold, right_inputs, right_lanes, right_orders}
+use Rattle.mls_cli.specs.Tasks.{Task, folding, fold_task, Saving}
 use Rattle.mls_cli.specs.Inputs.{◌>>=◌, right_study}
-use Rattle.mls_cli.specs.Ideal.{command_or_usage, command_fold, right_command, ideal, fold_of}
-use Rattle.mls_cli.specs.Answers.{Answers, Carries, IsSureFold, SaveFails}
-use Rattle.mls_cli.specs.Refusals.{FileState}
+use Rattle.mls_cli.specs.Ideal.{command_or_usage, command_task, right_command, ideal, task_of, task_or_nothing}
+use Rattle.mls_cli.specs.Answers.{Answers, Carries, IsSure, SaveFails}
+use Rattle.mls_export.specs.Files.{FileState}
 use Rattle.mls_cli.specs.Orders.{HasPlainLines, command_prints, printed_of}
 
 -- What the words ask for is the text of this fold, which is a result text.
-pub record IsOfFold (f : Folded) (right : Result (List ℕ) Status) (folded : Option Folded) : Type 0 where
+pub record IsOfFold (f : Folded) (right : Result (List ℕ) Status) (task : Task) : Type 0 where
   pub text : right ≡ Ok (folded_text f)
-  pub fold : folded ≡ Some f
+  pub fold : task ≡ folding f
   pub ending : f.ending ≡ results
 
 inputs_are : (inputs : Result Folded Status) (f : Folded) → asked_fold inputs ≡ Some f → inputs ≡ Ok f
@@ -51,12 +51,12 @@ inputs_end e study_name tape_name schedule_name held f is =
     behind P (right_orders study.sizes.ranks lanes schedule_name held) _ (λ orders g same. ends_so e study lanes orders g same))) f is
 
 of_fold : (study tape : List ℕ) (schedule : Option (List ℕ)) (held : Names) (f : Folded) → asked_fold (right_inputs results study tape schedule held) ≡ Some f
-    → IsOfFold f (right_fold results study tape schedule held) (asked_fold (right_inputs results study tape schedule held))
+    → IsOfFold f (right_fold results study tape schedule held) (fold_task (right_inputs results study tape schedule held))
 of_fold study tape schedule held f is =
     let same : right_inputs results study tape schedule held ≡ Ok f = inputs_are (right_inputs results study tape schedule held) f is in
-    record { text = ap asked_text same; fold = is; ending = inputs_end results study tape schedule held f same }
+    record { text = ap asked_text same; fold = ap fold_task same; ending = inputs_end results study tape schedule held f same }
 
-of_command : (command : Words) (held : Names) (f : Folded) → command_prints command held ≡ Some f → IsOfFold f (right_command command held) (command_fold command held)
+of_command : (command : Words) (held : Names) (f : Folded) → command_prints command held ≡ Some f → IsOfFold f (right_command command held) (command_task command held)
 of_command (words.Fold study tape schedule) held f is = of_fold study tape schedule held f is
 of_command (words.Watch study events) held f is = absurd cc
 of_command (words.Design study) held f is = absurd cc
@@ -66,21 +66,21 @@ of_command (words.Export study prefix) held f is = absurd cc
 of_command (words.Resume study old prefix tape schedule) held f is = absurd cc
 
 of_option : (o : Option Words) (held : Names) (f : Folded) → option_and_then (λ command. command_prints command held) o ≡ Some f
-    → IsOfFold f (command_or_usage o >>= (λ command. right_command command held)) (option_and_then (λ command. command_fold command held) o)
+    → IsOfFold f (command_or_usage o >>= (λ command. right_command command held)) (task_or_nothing o held)
 of_option None held f is = let none : ◌≡◌ {A = Option Folded} None (Some f) = is in absurd cc
 of_option (Some command) held f is = of_command command held f is
 
-of_words : (held : Names) (line : List (List ℕ)) (f : Folded) → printed_of held line ≡ Some f → IsOfFold f (ideal held line) (fold_of held line)
-unfolding printed_of ideal fold_of
+of_words : (held : Names) (line : List (List ℕ)) (f : Folded) → printed_of held line ≡ Some f → IsOfFold f (ideal held line) (task_of held line)
+unfolding printed_of ideal task_of
 of_words held line f is = of_option (words_of line) held f is
 
 -- after Done the result text of a fold was written, where it is sure what the keepers leave
-text_written : (sound : Bool) (unsaved : Type 0) (keepers : List KeeperState) (right : Result (List ℕ) Status) (folded : Option Folded) (f : Folded) (old new : SinkState) (s : Status)
-    → IsOfFold f right folded → s ≡ status.Done → Answers sound unsaved (IsSureFold folded keepers) right old new s → IsSureFold (Some f) keepers → Wrote old new (result_text f.study f.lanes f.orders)
-text_written sound unsaved keepers right folded f old new s is done h sure =
-    let says : Answers sound unsaved (IsSureFold folded keepers) right old new status.Done = subst (λ (x : Status). Answers sound unsaved (IsSureFold folded keepers) right old new x) done h in
-    let of_text : Answers sound unsaved (IsSureFold folded keepers) (Ok (folded_text f)) old new status.Done = subst (λ (o : Result (List ℕ) Status). Answers sound unsaved (IsSureFold folded keepers) o old new status.Done) is.text says in
-    let of_fold : Answers sound unsaved (IsSureFold (Some f) keepers) (Ok (folded_text f)) old new status.Done = subst (λ (o : Option Folded). Answers sound unsaved (IsSureFold o keepers) (Ok (folded_text f)) old new status.Done) is.fold of_text in
+text_written : (sound : Bool) (unsaved : Type 0) (keepers : List KeeperState) (right : Result (List ℕ) Status) (task : Task) (f : Folded) (old new : SinkState) (s : Status)
+    → IsOfFold f right task → s ≡ status.Done → Answers sound unsaved (IsSure task keepers) right old new s → IsSure (folding f) keepers → Wrote old new (result_text f.study f.lanes f.orders)
+text_written sound unsaved keepers right task f old new s is done h sure =
+    let says : Answers sound unsaved (IsSure task keepers) right old new status.Done = subst (λ (x : Status). Answers sound unsaved (IsSure task keepers) right old new x) done h in
+    let of_text : Answers sound unsaved (IsSure task keepers) (Ok (folded_text f)) old new status.Done = subst (λ (o : Result (List ℕ) Status). Answers sound unsaved (IsSure task keepers) o old new status.Done) is.text says in
+    let of_fold : Answers sound unsaved (IsSure (folding f) keepers) (Ok (folded_text f)) old new status.Done = subst (λ (o : Task). Answers sound unsaved (IsSure o keepers) (Ok (folded_text f)) old new status.Done) is.fold of_text in
     subst (λ (e : Ending). Wrote old new (ending_text e f.study f.lanes f.orders)) is.ending (of_fold sure)
 
 if_printed : (folded : Option Folded) (old new : SinkState) → ((f : Folded) → folded ≡ Some f → HasPlainLines (Some f) old new) → HasPlainLines folded old new
@@ -95,14 +95,14 @@ abbrev pub LinesAreSame : Type 0
 LinesAreSame = (study : Study) (lanes : List Lane) (orders : List (List ℕ)) → IsOrderFree study.sizes lanes → is_complete study.sizes.ranks lanes orders ≡ true → result_text study lanes orders ≡ text_with_plain_lines study lanes orders
 
 plain_lines : NoneCrash → LinesAreSame → (sound : Bool) (unsaved : Type 0) (keepers : List KeeperState) (held : Names) (line : List (List ℕ)) (old new : SinkState) (s : Status)
-    → s ≡ status.Done → Answers sound unsaved (IsSureFold (fold_of held line) keepers) (ideal held line) old new s → HasPlainLines (printed_of held line) old new
+    → s ≡ status.Done → Answers sound unsaved (IsSure (task_of held line) keepers) (ideal held line) old new s → HasPlainLines (printed_of held line) old new
 plain_lines calm same sound unsaved keepers held line old new s done h =
     if_printed (printed_of held line) old new (λ f is free complete.
-    let sure : IsSureFold (Some f) keepers = λ rank keeper there. inr (calm f.study.sizes f.lanes f.orders rank free complete) in
-    subst (Wrote old new) (same f.study f.lanes f.orders free complete) (text_written sound unsaved keepers (ideal held line) (fold_of held line) f old new s (of_words held line f is) done h sure))
+    let sure : IsSure (folding f) keepers = λ rank keeper there. inr (calm f.study.sizes f.lanes f.orders rank free complete) in
+    subst (Wrote old new) (same f.study f.lanes f.orders free complete) (text_written sound unsaved keepers (ideal held line) (task_of held line) f old new s (of_words held line f is) done h sure))
 
 -- the same of the command's answer over files that tell
-pub plain_carried : NoneCrash → LinesAreSame → (saved : Option NamePair) (line : List (List ℕ)) (files files' : FileState) (out out' : SinkState) (keepers keepers' : List KeeperState) (s : Status) (held : Names)
-    → Carries saved (λ held. ideal held line) (λ held. fold_of held line) files files' out out' keepers keepers' s → files.held ≡ Some held → s ≡ status.Done → HasPlainLines (printed_of held line) out out'
+pub plain_carried : NoneCrash → LinesAreSame → (saved : Saving) (line : List (List ℕ)) (files files' : FileState) (out out' : SinkState) (keepers keepers' : List KeeperState) (s : Status) (held : Names)
+    → Carries saved (λ held. ideal held line) (λ held. task_of held line) files files' out out' keepers keepers' s → files.held ≡ Some held → s ≡ status.Done → HasPlainLines (printed_of held line) out out'
 plain_carried calm same saved line files files' out out' keepers keepers' s held h told done =
-    plain_lines calm same files.sound (SaveFails saved (fold_of held line) files files' out out' keepers keepers') keepers held line out out' s done (h.told held told).text
+    plain_lines calm same files.sound (SaveFails saved (task_of held line) files files' out out' keepers keepers') keepers held line out out' s done (h.told held told).text

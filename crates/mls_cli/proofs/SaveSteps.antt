@@ -10,9 +10,11 @@ use Rattle.mls_result.specs.declared.status.Status.{Status}
 use Rattle.mls_result.specs.declared.status.Status.TheVariants as status
 use Rattle.mls_cli.specs.declared.words.NamePair.{NamePair}
 use Rattle.mls_cli.specs.Answers.{Carries, HasAllGroups, SaveFailed}
-use Rattle.mls_cli.specs.Fold.{Folded, asked_text, asked_fold}
+use Rattle.mls_cli.specs.Fold.{Folded, asked_text}
+use Rattle.mls_cli.specs.Tasks.{fold_task, saves_made, saving_of}
 use Rattle.mls_cli.specs.Trial.{folded_tape, folded_schedule}
-use Rattle.mls_cli.specs.Refusals.{FileState, Loads}
+use Rattle.mls_export.specs.Files.{FileState}
+use Rattle.mls_cli.specs.Refusals.{Loads}
 use Rattle.mls_cli.specs.Saving.{SavedPair, SavedTapeAtMost, SavesNamed, SavesPair, StoppedSaving, save_status}
 use Rattle.mls_cli.proofs.Folded.{HasSaved, told_inputs}
 
@@ -87,7 +89,7 @@ saved_named (Some names) f old new done h = record { all_saved = h.leaves; count
 -- a command whose text was not folded since a save did not succeed
 pub carried_unsaved : {A : Type 0} (B : Type 0) (saved : Option NamePair) (view : A → Folded) (loaded : Names → Result Folded Status) (old between new : FileState) (o : SinkState) (keepers : List KeeperState) (x : A) (fault : StoreFault)
     → Loads view loaded old between (Ok x) → HasAllGroups (view x).ending (view x).study (view x).lanes (view x).orders → SavesNamed {A = B} saved (folded_tape (view x)) (folded_schedule (view x)) (Err fault) between new
-    → Carries saved (λ held. asked_text (loaded held)) (λ held. asked_fold (loaded held)) old new o o keepers keepers (save_status fault)
+    → Carries (saving_of saved) (λ held. asked_text (loaded held)) (λ held. fold_task (loaded held)) old new o o keepers keepers (save_status fault)
 carried_unsaved B None view loaded old between new o keepers x fault h groups s = absurd s
 carried_unsaved B (Some names) view loaded old between new o keepers x store.Failed h groups s =
     let rose : Rose old.save_faults new.save_faults = subst (λ (n : ℕ). Rose n new.save_faults) h.saves s.counts in
@@ -99,11 +101,12 @@ carried_unsaved B (Some names) view loaded old between new o keepers x store.Fai
       uncalled = refl;
     } in
     record {
-      told = λ held told. told_inputs (Some names) (loaded held) (view x) old new o o keepers keepers status.WriteFault (h.right held told) (record {
+      told = λ held told. told_inputs (saves_made names) (loaded held) (view x) old new o o keepers keepers status.WriteFault (h.right held told) (record {
         text = inl failed;
         form = inl failed;
         leaves = inl failed;
         stored = inl failed;
+        exported = tt;
         all_groups = groups;
       });
       read_fault = λ e. absurd (cc);
@@ -113,11 +116,12 @@ carried_unsaved B (Some names) view loaded old between new o keepers x store.Fai
       saves = rose.later;
     }
 carried_unsaved B (Some names) view loaded old between new o keepers x store.Memory h groups s = record {
-  told = λ held told. told_inputs (Some names) (loaded held) (view x) old new o o keepers keepers status.Memory (h.right held told) (record {
+  told = λ held told. told_inputs (saves_made names) (loaded held) (view x) old new o o keepers keepers status.Memory (h.right held told) (record {
     text = refl;
     form = tt;
     leaves = tt;
     stored = inl (subst (λ (held : Option Names). SavedTapeAtMost names (folded_tape (view x)) held new.held) h.same s.leaves);
+    exported = tt;
     all_groups = tt;
   });
   read_fault = λ e. absurd (cc);

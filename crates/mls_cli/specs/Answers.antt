@@ -9,6 +9,7 @@ use Rattle.mls_model.specs.Standing.{Table}
 use Rattle.mls_model.specs.ResultText.{lines_of, histories_of}
 use Rattle.mls_design.specs.TrialText.{groups_line, groups_text}
 use Rattle.mls_ckpt.specs.Reading.{Cursor, Read}
+use Rattle.mls_ckpt.specs.declared.faults.CkptWhy.TheVariants.{Absent}
 use Rattle.mls_ckpt.specs.CellParts.{sums_part, part_at as sums_at}
 use Rattle.mls_field.specs.contracts.field.FieldRowFold.TheImpl.{ghosts as field_ghosts}
 use Rattle.mls_hist.specs.HistPart.{hist_part, part_at as hist_at}
@@ -17,20 +18,30 @@ use Rattle.mls_book.specs.Keepers.{KeeperState, AreSure, AtRank, HaveRun, EndedA
 use Rattle.mls_replay.specs.Folding.{OfCores}
 use Rattle.mls_bins.specs.Folding.{BinsOfCores}
 use Rattle.mls_trial.specs.Folding.{TrialOfCores}
+use Rattle.mls_export.specs.Files.{AreSaved, SaveFailedBehind}
+use Rattle.mls_export.specs.Exports.{ExportedTo, GetFailed, HasGiven, HasGivenBytes, IsKept, Stopped, StoppedAt}
 use Rattle.mls_cli.specs.declared.words.NamePair.{NamePair}
 use Rattle.mls_cli.specs.Fold.{Ending, results, histograms, summary, Folded, folded_histories}
+use Rattle.mls_cli.specs.Tasks.{Exported, Task, nothing, folding, exporting, Saving, saves_none, saves_made, saves_states}
+use Rattle.mls_cli.specs.Export.{AreTold, AllHold, IsEmptyAt}
 use Rattle.mls_cli.specs.Trial.{folded_tape, folded_schedule}
 use Rattle.mls_cli.specs.Saving.{SavedPair, SavedTapeAtMost, StoppedSaving}
 use Rattle.mls_launch.specs.declared.faults.OutFault.{OutFault}
 use Rattle.mls_launch.specs.declared.faults.OutFault.TheVariants as out
 use Rattle.mls_result.specs.declared.status.Status.{Status}
 use Rattle.mls_result.specs.declared.status.Status.TheVariants as status
-use Rattle.mls_cli.specs.Refusals.{FileState}
+use Rattle.mls_export.specs.Files.{FileState}
 
--- what a fold's keepers leave is known, if there is a fold
-abbrev pub IsSureFold : Option Folded → List KeeperState → Type 0
-IsSureFold None keepers = ⊤
-IsSureFold (Some f) keepers = AreSure (folded_histories f) keepers
+-- what the keepers leave of a fold is known, and what they hold for an export
+abbrev pub IsSure : Task → List KeeperState → Type 0
+IsSure nothing keepers = ⊤
+IsSure (folding f) keepers = AreSure (folded_histories f) keepers
+IsSure (exporting e) keepers = AreTold e.ranks keepers
+
+-- the keepers hold what an export is to save
+abbrev pub IsHeld : Task → List KeeperState → Type 0
+IsHeld (exporting e) keepers = AllHold e.ranks keepers
+IsHeld task keepers = ⊤
 
 -- A save of the tape or of the schedule failed before the fold: nothing was written and no keeper was called. The files were not
 -- sound, and the tape may be saved.
@@ -41,10 +52,15 @@ pub record SaveFailed (names : NamePair) (tape : List ℕ) (files files' : FileS
   pub unwritten : out' ≡ out
   pub uncalled : keepers' ≡ keepers
 
--- the same of a command that saves what it folds under names; no other command saves
-abbrev pub SaveFails : Option NamePair → Option Folded → (files files' : FileState) (out out' : SinkState) (keepers keepers' : List KeeperState) → Type 0
-SaveFails (Some names) (Some f) files files' out out' keepers keepers' = SaveFailed names (folded_tape f) files files' out out' keepers keepers'
-SaveFails saved folded files files' out out' keepers keepers' = ⊥
+-- A save of an export failed at some rank. The files of the ranks below are saved, and the keepers up to that rank gave what they hold.
+abbrev pub ExportFailed : Exported → (files files' : FileState) (keepers keepers' : List KeeperState) → Type 0
+ExportFailed e files files' keepers keepers' = Stopped e.ranks (λ lists. SaveFailedBehind e.prefix lists files files') HasGivenBytes keepers keepers'
+
+-- a save failed of a command that saves what it folds under names, or of an export; no other command saves
+abbrev pub SaveFails : Saving → Task → (files files' : FileState) (out out' : SinkState) (keepers keepers' : List KeeperState) → Type 0
+SaveFails (saves_made names) (folding f) files files' out out' keepers keepers' = SaveFailed names (folded_tape f) files files' out out' keepers keepers'
+SaveFails saves_states (exporting e) files files' out out' keepers keepers' = ExportFailed e files files' keepers keepers'
+SaveFails saved task files files' out out' keepers keepers' = ⊥
 
 -- After Done the sink has gained the text that is right and nothing else, after a failed write a front of it, where it is sure
 -- what the keepers leave, or a save before it failed. After every other answer the sink is as before. A fault of a keeper comes
@@ -66,12 +82,13 @@ OfEnding histograms study lanes goes = BinsOfCores hist_ghosts study (lines_of l
 OfEnding (summary number) study lanes goes = TrialOfCores field_ghosts study number lanes goes
 
 -- Whatever the keepers tell, what a fold appended is the text of some cores of the study and of the tape's lanes, and after a
--- failed write a front of such a text, or a save before it failed.
-abbrev pub IsOfCores : (unsaved : Type 0) → Option Folded → SinkState → SinkState → Status → Type 0
-IsOfCores unsaved None old new answer = ⊤
-IsOfCores unsaved (Some f) old new status.Done = OfEnding f.ending f.study f.lanes (Wrote old new)
-IsOfCores unsaved (Some f) old new status.WriteFault = unsaved ⊎ OfEnding f.ending f.study f.lanes (FailedAfter old new)
-IsOfCores unsaved (Some f) old new answer = ⊤
+-- failed write a front of such a text, or a save before it failed. An export leaves the sink as it was.
+abbrev pub IsOfCores : (unsaved : Type 0) → Task → SinkState → SinkState → Status → Type 0
+IsOfCores unsaved nothing old new answer = ⊤
+IsOfCores unsaved (folding f) old new status.Done = OfEnding f.ending f.study f.lanes (Wrote old new)
+IsOfCores unsaved (folding f) old new status.WriteFault = unsaved ⊎ OfEnding f.ending f.study f.lanes (FailedAfter old new)
+IsOfCores unsaved (folding f) old new answer = ⊤
+IsOfCores unsaved (exporting e) old new answer = new ≡ old
 
 -- the part of a checkpoint that has what is folded, by the fold's ending: its spelling, and the place behind it
 abbrev pub ending_part : Ending → Sizes → ℕ → Table → List ℕ
@@ -98,29 +115,50 @@ OtherLeaves old new (status.KeeperFault rank) = ⊥
 OtherLeaves old new (status.CheckpointBad rank at why) = ⊥
 OtherLeaves old new answer = new ≡ old
 
-abbrev pub KeepersAnswer : (unsaved : Type 0) → Option Folded → List KeeperState → List KeeperState → Status → Type 0
-KeepersAnswer unsaved None old new answer = OtherLeaves old new answer
-KeepersAnswer unsaved (Some f) old new answer = FoldLeaves unsaved f old new answer
+abbrev pub KeepersAnswer : (unsaved : Type 0) → Task → List KeeperState → List KeeperState → Status → Type 0
+KeepersAnswer unsaved nothing old new answer = OtherLeaves old new answer
+KeepersAnswer unsaved (folding f) old new answer = FoldLeaves unsaved f old new answer
+KeepersAnswer unsaved (exporting e) old new answer = ⊤
 
--- what is held where all is saved that is to be, and what may be where memory ran out
-abbrev pub AllSaved : Option NamePair → Option Folded → Option Names → Option Names → Type 0
-AllSaved (Some names) (Some f) old new = SavedPair names (folded_tape f) (folded_schedule f) old new
-AllSaved saved folded old new = new ≡ old
+-- An export that ran out of memory: before it began, or at some rank. The files of the ranks below are saved, and nothing failed.
+abbrev pub ExportWants : Exported → (files files' : FileState) (keepers keepers' : List KeeperState) → Type 0
+ExportWants e files files' keepers keepers' = ((files'.held ≡ files.held) × (keepers' ≡ keepers)) ⊎ Stopped e.ranks (λ lists. AreSaved e.prefix lists files files') IsKept keepers keepers'
 
-abbrev pub MaybeSaved : Option NamePair → Option Folded → Option Names → Option Names → Type 0
-MaybeSaved (Some names) (Some f) old new = SavedTapeAtMost names (folded_tape f) old new ⊎ SavedPair names (folded_tape f) (folded_schedule f) old new
-MaybeSaved saved folded old new = new ≡ old
+-- What an export leaves of the files and of the keepers. What each rank's keeper gave is saved, each before the next keeper is
+-- asked. A rank is refused exactly where its keeper's get failed, or gave nothing.
+abbrev pub ExportLeaves : Exported → (files files' : FileState) (keepers keepers' : List KeeperState) → Status → Type 0
+ExportLeaves e files files' keepers keepers' status.Done = ExportedTo e.ranks e.prefix files files' keepers keepers'
+ExportLeaves e files files' keepers keepers' (status.KeeperFault rank) = StoppedAt rank e.ranks (λ lists. AreSaved e.prefix lists files files') GetFailed keepers keepers'
+ExportLeaves e files files' keepers keepers' (status.CheckpointBad rank at why) = (at ≡ 0) × ((why ≡ Absent) × StoppedAt rank e.ranks (λ lists. AreSaved e.prefix lists files files') (HasGiven None) keepers keepers')
+ExportLeaves e files files' keepers keepers' status.WriteFault = ExportFailed e files files' keepers keepers'
+ExportLeaves e files files' keepers keepers' status.Memory = ExportWants e files files' keepers keepers'
+ExportLeaves e files files' keepers keepers' answer = keepers' ≡ keepers
+
+abbrev pub ExportAnswer : Task → (files files' : FileState) (keepers keepers' : List KeeperState) → Status → Type 0
+ExportAnswer (exporting e) files files' keepers keepers' answer = ExportLeaves e files files' keepers keepers' answer
+ExportAnswer task files files' keepers keepers' answer = ⊤
+
+-- What is held where all is saved that is to be, and what may be where memory ran out. Of an export that is said with its keepers.
+abbrev pub AllSaved : Saving → Task → Option Names → Option Names → Type 0
+AllSaved saved (exporting e) old new = ⊤
+AllSaved (saves_made names) (folding f) old new = SavedPair names (folded_tape f) (folded_schedule f) old new
+AllSaved saved task old new = new ≡ old
+
+abbrev pub MaybeSaved : Saving → Task → Option Names → Option Names → Type 0
+MaybeSaved saved (exporting e) old new = ⊤
+MaybeSaved (saves_made names) (folding f) old new = SavedTapeAtMost names (folded_tape f) old new ⊎ SavedPair names (folded_tape f) (folded_schedule f) old new
+MaybeSaved saved task old new = new ≡ old
 
 -- What the files hold. All is saved before a fold begins, and nothing where the command is refused. After a failed read nothing may
 -- be told any more.
-abbrev pub FilesAnswer : (unsaved : Type 0) → Option NamePair → Option Folded → Option Names → Option Names → Status → Type 0
-FilesAnswer unsaved saved folded old new status.Done = AllSaved saved folded old new
-FilesAnswer unsaved saved folded old new status.WriteFault = unsaved ⊎ AllSaved saved folded old new
-FilesAnswer unsaved saved folded old new (status.KeeperFault rank) = AllSaved saved folded old new
-FilesAnswer unsaved saved folded old new (status.CheckpointBad rank at why) = AllSaved saved folded old new
-FilesAnswer unsaved saved folded old new status.Memory = MaybeSaved saved folded old new
-FilesAnswer unsaved saved folded old new status.ReadFault = MayCease old new
-FilesAnswer unsaved saved folded old new answer = new ≡ old
+abbrev pub FilesAnswer : (unsaved : Type 0) → Saving → Task → Option Names → Option Names → Status → Type 0
+FilesAnswer unsaved saved task old new status.Done = AllSaved saved task old new
+FilesAnswer unsaved saved task old new status.WriteFault = unsaved ⊎ AllSaved saved task old new
+FilesAnswer unsaved saved task old new (status.KeeperFault rank) = AllSaved saved task old new
+FilesAnswer unsaved saved task old new (status.CheckpointBad rank at why) = AllSaved saved task old new
+FilesAnswer unsaved saved task old new status.Memory = MaybeSaved saved task old new
+FilesAnswer unsaved saved task old new status.ReadFault = MayCease old new
+FilesAnswer unsaved saved task old new answer = new ≡ old
 
 -- The line groups of a trial's summary has the study's number of groups twice.
 abbrev pub HasAllGroups : Ending → Study → List Lane → List (List ℕ) → Type 0
@@ -129,10 +167,10 @@ HasAllGroups histograms study lanes orders = ⊤
 HasAllGroups (summary number) study lanes orders = groups_line study.sizes (histories_of lanes orders) ≡ groups_text study.sizes.groups study.sizes.groups
 
 -- it does where the text or a front of it was written
-abbrev pub GroupsAnswer : Option Folded → Status → Type 0
-GroupsAnswer (Some f) status.Done = HasAllGroups f.ending f.study f.lanes f.orders
-GroupsAnswer (Some f) status.WriteFault = HasAllGroups f.ending f.study f.lanes f.orders
-GroupsAnswer folded answer = ⊤
+abbrev pub GroupsAnswer : Task → Status → Type 0
+GroupsAnswer (folding f) status.Done = HasAllGroups f.ending f.study f.lanes f.orders
+GroupsAnswer (folding f) status.WriteFault = HasAllGroups f.ending f.study f.lanes f.orders
+GroupsAnswer task answer = ⊤
 
 -- a call of the rank's keeper failed
 abbrev pub RoseAt : ℕ → List KeeperState → List KeeperState → Type 0
@@ -184,9 +222,19 @@ abbrev pub asked_status : Result (List ℕ) Status → Status
 asked_status (Ok text) = status.Done
 asked_status (Err refusal) = refusal
 
+-- Of an export whose inputs are right: that all is saved where the keepers hold it, else the first rank whose keeper holds nothing.
+abbrev pub ExportAsks : Exported → List KeeperState → Status → Type 0
+ExportAsks e keepers status.Done = AllHold e.ranks keepers
+ExportAsks e keepers (status.CheckpointBad rank at why) = IsEmptyAt e.ranks rank at why keepers
+ExportAsks e keepers answer = ⊥
+
+abbrev pub Asks : Task → List KeeperState → Result (List ℕ) Status → Status → Type 0
+Asks (exporting e) keepers (Ok text) answer = ExportAsks e keepers answer
+Asks task keepers right answer = answer ≡ asked_status right
+
 -- that one, or memory is wanting
-abbrev pub IsAsked : Result (List ℕ) Status → Status → Type 0
-IsAsked right answer = (answer ≡ asked_status right) ⊎ (answer ≡ status.Memory)
+abbrev pub IsAsked : Task → List KeeperState → Result (List ℕ) Status → Status → Type 0
+IsAsked task keepers right answer = Asks task keepers right answer ⊎ (answer ≡ status.Memory)
 
 -- the text was written, or memory is wanting
 abbrev pub IsDoneOrMemory : Status → Type 0
@@ -205,42 +253,45 @@ IsUncalled (status.CheckpointBad rank at why) = ⊥
 IsUncalled status.Memory = ⊥
 IsUncalled answer = ⊤
 
--- why a write failed: one of the sink, or a save of a command that saves
-abbrev pub WriteFails : Option NamePair → (files files' : FileState) (out out' : SinkState) → Type 0
-WriteFails None files files' out out' = Rose out.faults out'.faults
-WriteFails (Some names) files files' out out' = Rose out.faults out'.faults ⊎ Rose files.save_faults files'.save_faults
+-- why a write failed: one of the sink, or a save of a command that saves; an export writes nothing to the sink
+abbrev pub WriteFails : Saving → (files files' : FileState) (out out' : SinkState) → Type 0
+WriteFails saves_none files files' out out' = Rose out.faults out'.faults
+WriteFails (saves_made names) files files' out out' = Rose out.faults out'.faults ⊎ Rose files.save_faults files'.save_faults
+WriteFails saves_states files files' out out' = Rose files.save_faults files'.save_faults
 
 -- the count of failed saves: it stands, but that it may rise where a write failed of a command that saves
-abbrev pub MayRise : Option NamePair → (before now : ℕ) → Type 0
-MayRise None before now = now ≡ before
-MayRise (Some names) before now = before ≤ now
+abbrev pub MayRise : Saving → (before now : ℕ) → Type 0
+MayRise saves_none before now = now ≡ before
+MayRise saved before now = before ≤ now
 
-abbrev pub SavesCounted : Option NamePair → (before now : ℕ) → Status → Type 0
+abbrev pub SavesCounted : Saving → (before now : ℕ) → Status → Type 0
 SavesCounted saved before now status.WriteFault = MayRise saved before now
 SavesCounted saved before now answer = now ≡ before
 
 -- no save failed of a command that saves
-abbrev pub NoSaveRose : Option NamePair → (before now : ℕ) → Type 0
-NoSaveRose None before now = ⊤
-NoSaveRose (Some names) before now = DidNotRise before now
+abbrev pub NoSaveRose : Saving → (before now : ℕ) → Type 0
+NoSaveRose saves_none before now = ⊤
+NoSaveRose saved before now = DidNotRise before now
 
 -- How a command answers over files that tell what they hold, against the text or the refusal that is right.
-pub record TellsRight (saved : Option NamePair) (right : Result (List ℕ) Status) (folded : Option Folded) (files files' : FileState) (out out' : SinkState) (keepers keepers' : List KeeperState) (answer : Status) : Type 0 where
+pub record TellsRight (saved : Saving) (right : Result (List ℕ) Status) (task : Task) (files files' : FileState) (out out' : SinkState) (keepers keepers' : List KeeperState) (answer : Status) : Type 0 where
   -- the text or the refusal, against what was written
-  pub text : Answers files.sound (SaveFails saved folded files files' out out' keepers keepers') (IsSureFold folded keepers) right out out' answer
+  pub text : Answers files.sound (SaveFails saved task files files' out out' keepers keepers') (IsSure task keepers) right out out' answer
   -- what was written, whatever the keepers tell
-  pub form : IsOfCores (SaveFails saved folded files files' out out' keepers keepers') folded out out' answer
+  pub form : IsOfCores (SaveFails saved task files files' out out' keepers keepers') task out out' answer
   -- the keepers after it
-  pub leaves : KeepersAnswer (SaveFails saved folded files files' out out' keepers keepers') folded keepers keepers' answer
+  pub leaves : KeepersAnswer (SaveFails saved task files files' out out' keepers keepers') task keepers keepers' answer
   -- the files after it
-  pub stored : FilesAnswer (SaveFails saved folded files files' out out' keepers keepers') saved folded files.held files'.held answer
+  pub stored : FilesAnswer (SaveFails saved task files files' out out' keepers keepers') saved task files.held files'.held answer
+  -- the files and the keepers after an export
+  pub exported : ExportAnswer task files files' keepers keepers' answer
   -- the line groups of a trial
-  pub all_groups : GroupsAnswer folded answer
+  pub all_groups : GroupsAnswer task answer
 
 -- How a command answers that is to write what the held files ask for, the text or the refusal, by a fold or without one, and to save
 -- what it folds under these names.
-pub record Carries (saved : Option NamePair) (asked : Names → Result (List ℕ) Status) (folded : Names → Option Folded) (files files' : FileState) (out out' : SinkState) (keepers keepers' : List KeeperState) (answer : Status) : Type 0 where
-  pub told : (held : Names) → files.held ≡ Some held → TellsRight saved (asked held) (folded held) files files' out out' keepers keepers' answer
+pub record Carries (saved : Saving) (asked : Names → Result (List ℕ) Status) (task : Names → Task) (files files' : FileState) (out out' : SinkState) (keepers keepers' : List KeeperState) (answer : Status) : Type 0 where
+  pub told : (held : Names) → files.held ≡ Some held → TellsRight saved (asked held) (task held) files files' out out' keepers keepers' answer
   pub read_fault : answer ≡ status.ReadFault → Rose files.load_faults files'.load_faults
   pub write_fault : answer ≡ status.WriteFault → WriteFails saved files files' out out'
   pub keeper_fault : (rank : ℕ) → answer ≡ status.KeeperFault rank → RoseAt rank keepers keepers'

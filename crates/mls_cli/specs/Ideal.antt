@@ -1,16 +1,16 @@
 -- What is right: the text that words ask for, or their refusal, from the files that are held.
 use Rattle.std.specs.Prelude.{◌≡◌, ℕ, List, Option, Some, None, Result, Ok, Err}
-use Rattle.std.specs.Option.{option_and_then}
 use Rattle.mls_base.specs.Told.{Names}
 use Rattle.mls_result.specs.declared.status.Status.{Status}
 use Rattle.mls_result.specs.declared.status.Status.TheVariants as status
 use Rattle.mls_result.specs.declared.status.Unbuilt.TheVariants as part
-use Rattle.mls_cli.specs.declared.words.NamePair.{NamePair}
 use Rattle.mls_cli.specs.declared.words.Words.{Words}
 use Rattle.mls_cli.specs.declared.words.Words.TheVariants as words
 use Rattle.mls_cli.specs.Words.{words_of}
 use Rattle.mls_cli.specs.Inputs.{◌>>=◌, not_built}
-use Rattle.mls_cli.specs.Fold.{Folded, results, histograms, asked_text, asked_fold, right_inputs, right_fold}
+use Rattle.mls_cli.specs.Fold.{results, histograms, asked_text, right_inputs, right_fold}
+use Rattle.mls_cli.specs.Tasks.{Task, nothing, fold_task, export_task, export_text, Saving, saves_none, saves_states, saving_of}
+use Rattle.mls_cli.specs.Export.{right_export}
 use Rattle.mls_cli.specs.Trial.{right_trial}
 use Rattle.mls_cli.specs.Watch.{right_watch}
 use Rattle.mls_cli.specs.Design.{right_design}
@@ -23,20 +23,22 @@ right_command (words.Watch study events) held = right_watch study events held
 right_command (words.Design study) held = right_design study held
 right_command (words.Trial study number saved) held = asked_text (right_trial study number held)
 right_command (words.Bins study tape schedule) held = right_fold histograms study tape schedule held
-right_command (words.Export study prefix) held = not_built part.Command
+right_command (words.Export study prefix) held = export_text (right_export study prefix held)
 right_command (words.Resume study old prefix tape schedule) held = not_built part.Command
 
--- what a command folds, where it is a fold and its inputs are right
-abbrev pub command_fold : Words → Names → Option Folded
-command_fold (words.Fold study tape schedule) held = asked_fold (right_inputs results study tape schedule held)
-command_fold (words.Bins study tape schedule) held = asked_fold (right_inputs histograms study tape schedule held)
-command_fold (words.Trial study number saved) held = asked_fold (right_trial study number held)
-command_fold command held = None
+-- what a command folds or exports, where its inputs are right
+abbrev pub command_task : Words → Names → Task
+command_task (words.Fold study tape schedule) held = fold_task (right_inputs results study tape schedule held)
+command_task (words.Bins study tape schedule) held = fold_task (right_inputs histograms study tape schedule held)
+command_task (words.Trial study number saved) held = fold_task (right_trial study number held)
+command_task (words.Export study prefix) held = export_task (right_export study prefix held)
+command_task command held = nothing
 
--- the names under which a command saves the tape and the schedule that it makes, where it is a trial with names
-abbrev pub command_saved : Words → Option NamePair
-command_saved (words.Trial study number saved) = saved
-command_saved command = None
+-- what a command saves: a trial with names the tape and the schedule that it makes, an export the states that its keepers hold
+abbrev pub command_saves : Words → Saving
+command_saves (words.Trial study number saved) = saving_of saved
+command_saves (words.Export study prefix) = saves_states
+command_saves command = saves_none
 
 abbrev pub command_or_usage : Option Words → Result Words Status
 command_or_usage None = Err status.Usage
@@ -49,13 +51,21 @@ ideal held words = do
   command ← command_or_usage (words_of words)
   right_command command held
 
--- what the words fold, where they are a fold and its inputs are right
-unfoldable pub fold_of : Names → List (List ℕ) → Option Folded
-fold_of held words = option_and_then (λ command. command_fold command held) (words_of words)
+abbrev pub task_or_nothing : Option Words → Names → Task
+task_or_nothing None held = nothing
+task_or_nothing (Some command) held = command_task command held
 
--- the names under which the words save a tape and a schedule, where they are a trial with names
-unfoldable pub saved_of : List (List ℕ) → Option NamePair
-saved_of words = option_and_then command_saved (words_of words)
+-- what the words fold or export, where their inputs are right
+unfoldable pub task_of : Names → List (List ℕ) → Task
+task_of held words = task_or_nothing (words_of words) held
+
+abbrev pub saving_or_none : Option Words → Saving
+saving_or_none None = saves_none
+saving_or_none (Some command) = command_saves command
+
+-- what the words save
+unfoldable pub saves_of : List (List ℕ) → Saving
+saves_of words = saving_or_none (words_of words)
 
 -- Where the files tell what they hold, each refusal is answered exactly where it is the one that these words ask for.
 abbrev pub RefusesExactly : Option Names → (words : List (List ℕ)) → (answer : Status) → Type 0

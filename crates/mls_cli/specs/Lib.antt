@@ -3,6 +3,8 @@ pub mod Refusals
 pub mod Inputs
 pub mod Fold
 pub mod Trial
+pub mod Tasks
+pub mod Export
 pub mod Watch
 pub mod Design
 pub mod Saving

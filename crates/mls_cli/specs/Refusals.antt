@@ -1,6 +1,7 @@
 -- Why a command has no inputs, against what is right.
 use Rattle.std.specs.Prelude.{◌≡◌, ℕ, Bool, IsTrue, Option, Some, Result, Ok, Err, MatchResult, ⊤}
 use Rattle.mls_base.specs.Told.{Names, MayCease, Rose, StaysSound}
+use Rattle.mls_export.specs.Files.{FileState}
 use Rattle.mls_result.specs.declared.status.Status.{Status}
 use Rattle.mls_result.specs.declared.status.Status.TheVariants as status
 use Rattle.mls_study.specs.declared.fault.StudyFault.{StudyFault}
@@ -49,17 +50,6 @@ Leaves r old new = new ≡ old
 abbrev pub IsOfContent : Refusal → Type 0
 IsOfContent refusal.ReadFault = ⊥
 IsOfContent r = ⊤
-
--- what a command sees of its files: what they hold, where they tell it, whether they are sound, and how many loads and saves failed
-pub record FileState : Type 0 where
-  pub held : Option Names
-  pub sound : Bool
-  pub load_faults : ℕ
-  pub save_faults : ℕ
-
--- of these files
-abbrev pub seen : {F : Type 0} → (F → Option Names) → (F → Bool) → (F → ℕ) → (F → ℕ) → F → FileState
-seen held sound load_faults save_faults files = record { held = held files; sound = sound files; load_faults = load_faults files; save_faults = save_faults files }
 
 -- What was loaded, seen by view, is what the held files ask for, or the refusal is. The files hold the same after it, and
 -- are sound where they were.

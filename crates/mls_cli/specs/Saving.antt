@@ -6,7 +6,7 @@ use Rattle.mls_base.specs.declared.faults.StoreFault.TheVariants as store
 use Rattle.mls_result.specs.declared.status.Status.{Status}
 use Rattle.mls_result.specs.declared.status.Status.TheVariants as status
 use Rattle.mls_cli.specs.declared.words.NamePair.{NamePair}
-use Rattle.mls_cli.specs.Refusals.{FileState}
+use Rattle.mls_export.specs.Files.{FileState}
 
 -- The schedule is held under its name, and the tape under its own where that is another. All other names are held as before.
 pub record HoldsPair (names : NamePair) (tape schedule : List ℕ) (old new : Names) : Type 0 where

@@ -5,15 +5,16 @@ ghost use Rattle.mls_base.specs.Told.{Names, Rose};
 ghost use Rattle.mls_text.specs.Writing.{sink_seen};
 ghost use Rattle.mls_book.specs.Keepers.{keepers_seen};
 ghost use Rattle.mls_cli.specs.Words.{words_of};
-ghost use Rattle.mls_cli.specs.Ideal.{RefusesExactly, ideal, fold_of, saved_of, right_command, command_fold, command_saved};
+ghost use Rattle.mls_cli.specs.Ideal.{RefusesExactly, ideal, task_of, saves_of, right_command, command_task, command_saves};
 ghost use Rattle.mls_cli.specs.Answers.{Carries, DidNotRise, IsAsked, IsDoneOrMemory, IsQuiet, IsRight, IsUncalled};
-ghost use Rattle.mls_cli.specs.Answers.{AreSound, IsSureFold, NoneRose, NoSaveRose, RoseAt, SavesCounted, TakesText};
+ghost use Rattle.mls_cli.specs.Answers.{AreSound, IsHeld, IsSure, NoneRose, NoSaveRose, RoseAt, SavesCounted, TakesText};
 ghost use Rattle.mls_cli.specs.Answers.{TellsRight, WriteFails};
-ghost use Rattle.mls_cli.specs.Refusals.{seen};
+ghost use Rattle.mls_export.specs.Files.{seen};
 ghost use Rattle.mls_cli.specs.Orders.{HasPlainLines, printed_of};
 
 use crate::bins::run_bins;
 use crate::design::run_design;
+use crate::export::run_export;
 use crate::fold::run_fold;
 use crate::trial::run_trial;
 use crate::watch::run_watch;
@@ -33,7 +34,7 @@ fn carry_out<F: Files, O: Sink, K: Keeper + Drop>(
     keepers: Vec<K>,
 ) -> (Status, Vec<K>)
     requires { vec_len keepers ≡ 64 }
-    ensures carried { Carries (command_saved command) (right_command command) (command_fold command)
+    ensures carried { Carries (command_saves command) (right_command command) (command_task command)
         (seen F.held F.sound F.load_faults F.save_faults files.old)
         (seen F.held F.sound F.load_faults F.save_faults files.new)
         (sink_seen O.told O.faults O.sure out.old) (sink_seen O.told O.faults O.sure out.new)
@@ -82,7 +83,10 @@ fn carry_out<F: Files, O: Sink, K: Keeper + Drop>(
             number,
             saved,
         } => return run_trial(alloc, study.as_str(), number, &saved, files, out, keepers),
-        Words::Export { .. } | Words::Resume { .. } => {
+        Words::Export { study, prefix } => {
+            return run_export(alloc, study.as_str(), prefix.as_str(), files, keepers);
+        }
+        Words::Resume { .. } => {
             let part = Unbuilt::Command;
             return (Status::NotBuilt { part }, keepers);
         }
@@ -98,8 +102,8 @@ fn run<F: Files, O: Sink, K: Keeper + Drop>(
     keepers: Vec<K>,
 ) -> (Status, Vec<K>)
     requires { vec_len keepers ≡ 64 }
-    ensures carried { Carries (saved_of (map string_bytes words.now)) (λ held. ideal held (map string_bytes words.now))
-        (λ held. fold_of held (map string_bytes words.now))
+    ensures carried { Carries (saves_of (map string_bytes words.now)) (λ held. ideal held (map string_bytes words.now))
+        (λ held. task_of held (map string_bytes words.now))
         (seen F.held F.sound F.load_faults F.save_faults files.old)
         (seen F.held F.sound F.load_faults F.save_faults files.new)
         (sink_seen O.told O.faults O.sure out.old) (sink_seen O.told O.faults O.sure out.new)
@@ -121,7 +125,8 @@ fn run<F: Files, O: Sink, K: Keeper + Drop>(
 /// Where the files tell what they hold, the sink has gained exactly the text that the words and the named files' bytes
 /// ask for where the answer is `Done`, a front of it after `WriteFault`, and nothing after every other answer. A fold
 /// calls the keeper of a rank at the saves and crashes of its history; each keeper comes back in its place. A trial with
-/// names saves the tape and the schedule that it makes before it folds them; no other command saves a file.
+/// names saves the tape and the schedule that it makes before it folds them. An export writes no text: it saves what the
+/// keeper of each rank holds. No other command saves a file.
 pub fn melissa<F: Files, O: Sink, K: Keeper + Drop>(
     alloc: Global,
     words: &[String],
@@ -135,10 +140,12 @@ pub fn melissa<F: Files, O: Sink, K: Keeper + Drop>(
     // or no crash of its rank's history stands behind a save; whatever the keepers tell, it is that of some cores of the
     // study and of the lanes. Each keeper that tells holds the last save of its rank's history, or what it held; after a
     // rank's fault the keepers below ran over their histories, and those above are as before. What a trial with names
-    // makes is saved before its fold, and its line `groups` has the study's number of groups twice.
+    // makes is saved before its fold, and its line `groups` has the study's number of groups twice. An export asks the
+    // keeper of each rank of the study once, in rising rank, and saves what it gives before the next is asked; it ends at
+    // the first get that fails, keeper that holds nothing, or save that fails. The files of the ranks below stay saved.
     ensures right { (held : Names) → F.held files.old ≡ Some held →
-        TellsRight (saved_of (map string_bytes words.now)) (ideal held (map string_bytes words.now))
-        (fold_of held (map string_bytes words.now))
+        TellsRight (saves_of (map string_bytes words.now)) (ideal held (map string_bytes words.now))
+        (task_of held (map string_bytes words.now))
         (seen F.held F.sound F.load_faults F.save_faults files.old)
         (seen F.held F.sound F.load_faults F.save_faults files.new)
         (sink_seen O.told O.faults O.sure out.old) (sink_seen O.told O.faults O.sure out.new)
@@ -157,17 +164,19 @@ pub fn melissa<F: Files, O: Sink, K: Keeper + Drop>(
     ensures refused { RefusesExactly (F.held files.old) (map string_bytes words.now) result.0 }
 
     // Over sound files that tell, sound keepers of which it is known what they leave, and a sink that takes the text for
-    // sure, the answer is the one that the words and the files ask for, or memory is wanting: a read fails exactly where
-    // the first refusal is that a name isn't held.
+    // sure, the answer is the one that the words, the files and the keepers ask for, or memory is wanting: a read fails
+    // exactly where the first refusal is that a name isn't held, and an export is refused exactly at the first rank whose
+    // keeper holds nothing.
     ensures sound { (held : Names) → F.held files.old ≡ Some held → IsTrue (F.sound files.old) →
-        IsSureFold (fold_of held (map string_bytes words.now)) (keepers_seen K.Keeper keepers.items) →
+        IsSure (task_of held (map string_bytes words.now)) (keepers_seen K.Keeper keepers.items) →
         AreSound (keepers_seen K.Keeper keepers.items) →
         TakesText (ideal held (map string_bytes words.now)) (sink_seen O.told O.faults O.sure out.old) →
-        IsAsked (ideal held (map string_bytes words.now)) result.0 }
+        IsAsked (task_of held (map string_bytes words.now)) (keepers_seen K.Keeper keepers.items)
+        (ideal held (map string_bytes words.now)) result.0 }
 
     // The causes of faults of the outside.
     ensures read_fault { result.0 ≡ Status.ReadFault → Rose (F.load_faults files.old) (F.load_faults files.new) }
-    ensures write_fault { result.0 ≡ Status.WriteFault → WriteFails (saved_of (map string_bytes words.now))
+    ensures write_fault { result.0 ≡ Status.WriteFault → WriteFails (saves_of (map string_bytes words.now))
         (seen F.held F.sound F.load_faults F.save_faults files.old)
         (seen F.held F.sound F.load_faults F.save_faults files.new)
         (sink_seen O.told O.faults O.sure out.old) (sink_seen O.told O.faults O.sure out.new) }
@@ -177,21 +186,23 @@ pub fn melissa<F: Files, O: Sink, K: Keeper + Drop>(
     // After every answer but `Done` and `WriteFault` a told sink is as it was, told files or not.
     ensures quiet { IsQuiet result.0 → O.told out.new ≡ O.told out.old }
 
-    // Where there is a text, it is known what the keepers leave, and no count rose, it is written or memory is wanting.
+    // Where there is a text, it is known what the keepers leave, they hold what an export is to save, and no count rose, the
+    // command is carried out or memory is wanting.
     ensures complete { (held : Names) → F.held files.old ≡ Some held →
         IsRight (ideal held (map string_bytes words.now)) →
-        IsSureFold (fold_of held (map string_bytes words.now)) (keepers_seen K.Keeper keepers.items) →
+        IsSure (task_of held (map string_bytes words.now)) (keepers_seen K.Keeper keepers.items) →
+        IsHeld (task_of held (map string_bytes words.now)) (keepers_seen K.Keeper keepers.items) →
         DidNotRise (F.load_faults files.old) (F.load_faults files.new) →
-        NoSaveRose (saved_of (map string_bytes words.now)) (F.save_faults files.old) (F.save_faults files.new) →
+        NoSaveRose (saves_of (map string_bytes words.now)) (F.save_faults files.old) (F.save_faults files.new) →
         DidNotRise (O.faults out.old) (O.faults out.new) →
         NoneRose (keepers_seen K.Keeper keepers.items) (keepers_seen K.Keeper result.1.items) →
         IsDoneOrMemory result.0 }
 
     // There are as many keepers as before; after a refusal each is as it was. The count of failed saves stands, but
-    // after `WriteFault` of a trial with names.
+    // after `WriteFault` of a trial with names or of an export.
     ensures places { vec_len result.1 ≡ 64 }
     ensures uncalled { IsUncalled result.0 → result.1 ≡ keepers }
-    ensures saves { SavesCounted (saved_of (map string_bytes words.now))
+    ensures saves { SavesCounted (saves_of (map string_bytes words.now))
         (F.save_faults files.old) (F.save_faults files.new) result.0 }
 {
     no_rank_crashes();

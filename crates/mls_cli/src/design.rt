@@ -1,13 +1,14 @@
 //! The command `design`.
 
-ghost use Rattle.std.specs.Prelude.{◌≡◌, List, None};
+ghost use Rattle.std.specs.Prelude.{◌≡◌, List};
 ghost use Rattle.mls_model.specs.Designs.{design_text};
 ghost use Rattle.mls_launch.specs.Writing.{WritesOut};
 ghost use Rattle.mls_cli.specs.Design.{right_design};
 ghost use Rattle.mls_text.specs.Writing.{sink_seen};
 ghost use Rattle.mls_book.specs.Keepers.{KeeperState};
+ghost use Rattle.mls_cli.specs.Tasks.{nothing, saves_none};
 ghost use Rattle.mls_cli.specs.Answers.{Carries};
-ghost use Rattle.mls_cli.specs.Refusals.{seen};
+ghost use Rattle.mls_export.specs.Files.{seen};
 
 use crate::loading::load_study;
 use crate::written::out_status;
@@ -37,7 +38,7 @@ pub(crate) fn run_design<F: Files, O: Sink>(
     files: &mut F,
     out: &mut O,
 ) -> Status
-    ensures carried { (keepers : List KeeperState) → Carries None (right_design study_name.now) (λ held. None)
+    ensures carried { (keepers : List KeeperState) → Carries saves_none (right_design study_name.now) (λ held. nothing)
         (seen F.held F.sound F.load_faults F.save_faults files.old)
         (seen F.held F.sound F.load_faults F.save_faults files.new)
         (sink_seen O.told O.faults O.sure out.old) (sink_seen O.told O.faults O.sure out.new) keepers keepers result }

@@ -1,11 +1,12 @@
 //! The command `fold`.
 
-ghost use Rattle.std.specs.Prelude.{◌≡◌, None, vec_len};
+ghost use Rattle.std.specs.Prelude.{◌≡◌, vec_len};
 ghost use Rattle.mls_text.specs.Writing.{sink_seen};
 ghost use Rattle.mls_book.specs.Keepers.{keepers_seen};
-ghost use Rattle.mls_cli.specs.Fold.{results, asked_fold, right_inputs, right_fold};
+ghost use Rattle.mls_cli.specs.Fold.{results, right_inputs, right_fold};
+ghost use Rattle.mls_cli.specs.Tasks.{saves_none, fold_task};
 ghost use Rattle.mls_cli.specs.Answers.{Carries, IsUncalled};
-ghost use Rattle.mls_cli.specs.Refusals.{seen};
+ghost use Rattle.mls_export.specs.Files.{seen};
 
 use crate::fold_inputs::load_inputs;
 use crate::written::fold_status;
@@ -26,8 +27,8 @@ pub(crate) fn run_fold<F: Files, O: Sink, K: Keeper + Drop>(
     keepers: Vec<K>,
 ) -> (Status, Vec<K>)
     requires { vec_len keepers ≡ 64 }
-    ensures carried { Carries None (right_fold results study_name.now tape_name.now schedule_name.now)
-        (λ held. asked_fold (right_inputs results study_name.now tape_name.now schedule_name.now held))
+    ensures carried { Carries saves_none (right_fold results study_name.now tape_name.now schedule_name.now)
+        (λ held. fold_task (right_inputs results study_name.now tape_name.now schedule_name.now held))
         (seen F.held F.sound F.load_faults F.save_faults files.old)
         (seen F.held F.sound F.load_faults F.save_faults files.new)
         (sink_seen O.told O.faults O.sure out.old) (sink_seen O.told O.faults O.sure out.new)

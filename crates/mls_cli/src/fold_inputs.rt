@@ -5,7 +5,8 @@ ghost use Rattle.mls_model.specs.Schedules.{plain, is_legal};
 ghost use Rattle.mls_tape.specs.ScheduleReading.{longest_schedule};
 ghost use Rattle.mls_tape.specs.Tapes.{longest_tape};
 ghost use Rattle.mls_cli.specs.Fold.{Ending, fold_over, content_lanes, content_schedule, right_lanes, right_orders, right_inputs};
-ghost use Rattle.mls_cli.specs.Refusals.{Agrees, IsOfContent, Loads, seen};
+ghost use Rattle.mls_export.specs.Files.{seen};
+ghost use Rattle.mls_cli.specs.Refusals.{Agrees, IsOfContent, Loads};
 
 use crate::loading::{load, load_study};
 use crate::refusal::Refusal;

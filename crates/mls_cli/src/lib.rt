@@ -4,6 +4,7 @@
 mod bins;
 mod commands;
 mod design;
+mod export;
 mod fold;
 mod fold_inputs;
 mod loading;

@@ -2,7 +2,8 @@
 
 ghost use Rattle.std.specs.Prelude.{◌≡◌, ◌≤◌, true, IfOk, IfErr, vec_len};
 ghost use Rattle.mls_cli.specs.Inputs.{study_limit, limited, content_study, right_study};
-ghost use Rattle.mls_cli.specs.Refusals.{Agrees, IsOfContent, Loads, seen};
+ghost use Rattle.mls_export.specs.Files.{seen};
+ghost use Rattle.mls_cli.specs.Refusals.{Agrees, IsOfContent, Loads};
 
 use crate::refusal::{Refusal, study_refusal};
 use mls_base::faults::LoadFault;

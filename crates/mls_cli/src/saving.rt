@@ -2,7 +2,7 @@
 
 ghost use Rattle.std.specs.Prelude.{◌≡◌};
 ghost use Rattle.mls_model.specs.Schedules.{schedule_text};
-ghost use Rattle.mls_cli.specs.Refusals.{seen};
+ghost use Rattle.mls_export.specs.Files.{seen};
 ghost use Rattle.mls_cli.specs.Saving.{SavesNamed, SavesPair, save_status};
 
 use crate::words::NamePair;

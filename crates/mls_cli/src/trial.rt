@@ -5,8 +5,10 @@ ghost use Rattle.mls_model.specs.Schedules.{is_legal};
 ghost use Rattle.mls_text.specs.Writing.{sink_seen};
 ghost use Rattle.mls_book.specs.Keepers.{keepers_seen};
 ghost use Rattle.mls_cli.specs.Answers.{Carries, HasAllGroups, IsUncalled};
-ghost use Rattle.mls_cli.specs.Fold.{fold_over, summary, asked_fold, asked_text};
-ghost use Rattle.mls_cli.specs.Refusals.{Agrees, IsOfContent, Loads, seen};
+ghost use Rattle.mls_cli.specs.Fold.{fold_over, summary, asked_text};
+ghost use Rattle.mls_export.specs.Files.{seen};
+ghost use Rattle.mls_cli.specs.Refusals.{Agrees, IsOfContent, Loads};
+ghost use Rattle.mls_cli.specs.Tasks.{fold_task, saving_of};
 ghost use Rattle.mls_cli.specs.Trial.{content_trial, folded_tape, right_trial};
 
 use crate::loading::load_study;
@@ -85,8 +87,8 @@ pub(crate) fn run_trial<F: Files, O: Sink, K: Keeper + Drop>(
     keepers: Vec<K>,
 ) -> (Status, Vec<K>)
     requires { vec_len keepers ≡ 64 }
-    ensures carried { Carries names.now (λ held. asked_text (right_trial study_name.now number held))
-        (λ held. asked_fold (right_trial study_name.now number held))
+    ensures carried { Carries (saving_of names.now) (λ held. asked_text (right_trial study_name.now number held))
+        (λ held. fold_task (right_trial study_name.now number held))
         (seen F.held F.sound F.load_faults F.save_faults files.old)
         (seen F.held F.sound F.load_faults F.save_faults files.new)
         (sink_seen O.told O.faults O.sure out.old) (sink_seen O.told O.faults O.sure out.new)

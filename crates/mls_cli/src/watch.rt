@@ -1,13 +1,15 @@
 //! The command `watch`.
 
-ghost use Rattle.std.specs.Prelude.{◌≡◌, ◌≤◌, List, length, true, None, IfErr};
+ghost use Rattle.std.specs.Prelude.{◌≡◌, ◌≤◌, List, length, true, IfErr};
 ghost use Rattle.mls_model.specs.WatchText.{watch_text};
 ghost use Rattle.mls_launch.specs.Writing.{WritesOut};
 ghost use Rattle.mls_cli.specs.Watch.{events_limit, content_events, right_events, right_watch};
 ghost use Rattle.mls_text.specs.Writing.{sink_seen};
 ghost use Rattle.mls_book.specs.Keepers.{KeeperState};
+ghost use Rattle.mls_cli.specs.Tasks.{nothing, saves_none};
 ghost use Rattle.mls_cli.specs.Answers.{Carries};
-ghost use Rattle.mls_cli.specs.Refusals.{Agrees, IsOfContent, Loads, seen};
+ghost use Rattle.mls_export.specs.Files.{seen};
+ghost use Rattle.mls_cli.specs.Refusals.{Agrees, IsOfContent, Loads};
 
 use crate::loading::{load, load_study};
 use crate::refusal::Refusal;
@@ -85,7 +87,7 @@ pub(crate) fn run_watch<F: Files, O: Sink>(
     files: &mut F,
     out: &mut O,
 ) -> Status
-    ensures carried { (keepers : List KeeperState) → Carries None (right_watch study_name.now events_name.now) (λ held. None)
+    ensures carried { (keepers : List KeeperState) → Carries saves_none (right_watch study_name.now events_name.now) (λ held. nothing)
         (seen F.held F.sound F.load_faults F.save_faults files.old)
         (seen F.held F.sound F.load_faults F.save_faults files.new)
         (sink_seen O.told O.faults O.sure out.old) (sink_seen O.told O.faults O.sure out.new) keepers keepers result }

@@ -1,4 +1,5 @@
 -- What each command answers; a watch and a design over keepers that aren't called.
+use Rattle.mls_text.specs.Writing.{sink_seen}
 use Rattle.mls_book.specs.Keepers.{keepers_seen}
 use Rattle.mls_cli.proofs.commands.carry_out.Goals as goal
 
@@ -26,3 +27,8 @@ pub returns-in-Design-clause-carried : goal.returns-in-Design-clause-carried
 returns-in-Design-clause-carried g c =
     let own = rw (c.as_str-in-Design.ensures) at (c.run_design-status.ensures.carried (keepers_seen g.K.Keeper c.args.keepers.items)) in
     rw (c.in-Design.is) own
+
+pub returns-in-Export-clause-carried : goal.returns-in-Export-clause-carried
+returns-in-Export-clause-carried g c =
+    let own = rw (c.as_str-in-Export.ensures, c.as_str-in-Export-2.ensures) at (c.run_export.ensures.carried (sink_seen g.O.Sink.told g.O.Sink.faults g.O.Sink.sure c.args.out.now)) in
+    rw (c.in-Export.is) own

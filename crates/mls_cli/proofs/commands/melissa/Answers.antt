@@ -11,8 +11,8 @@ pub returns-clause-sound : goal.returns-clause-sound
 returns-clause-sound g c held told sound sure all takes = asked_carried _ _ _ _ _ _ _ _ _ _ held c.run.ensures.carried told sound sure all takes
 
 pub returns-clause-complete : goal.returns-clause-complete
-returns-clause-complete g c held told right sure no_load no_save no_write none =
-    completed_carried _ _ _ _ _ _ _ _ _ _ held c.run.ensures.carried told right sure no_load no_save no_write none
+returns-clause-complete g c held told right sure full no_load no_save no_write none =
+    completed_carried _ _ _ _ _ _ _ _ _ _ held c.run.ensures.carried told right sure full no_load no_save no_write none
 
 pub returns-clause-orders : goal.returns-clause-orders
 returns-clause-orders g c held told done = plain_carried c.no_rank_crashes.ensures.none_after_save c.result_text_has_the_plain_lines.ensures _ (map string_bytes c.args.words.now) _ _ _ _ _ _ _ held c.run.ensures.carried told done
