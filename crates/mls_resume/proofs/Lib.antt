@@ -5,3 +5,6 @@ pub mod Pieces
 pub mod Counting
 pub mod Whole
 pub mod Opened
+pub mod Pieced
+pub mod Cut
+pub mod Checked

@@ -1,6 +1,6 @@
 -- The marks of a core are those of its state, and what a set of the same marks spells.
 use Rattle.std.proofs.Common.{◌≡◌, ◌≢◌, ℕ, ◌+◌, ◌<◌, ◌≤◌, Bool, true, false, List, [], get_or, Ok, Err, refl, sym, ap, ◌∙◌, arith}
-use Rattle.std.specs.Prelude.{not, Result, IfOk}
+use Rattle.std.specs.Prelude.{not, Result, IfOk, OnOk}
 use Rattle.mls_model.specs.Studies.{Sizes}
 use Rattle.mls_ckpt.specs.States.{State}
 use Rattle.mls_ckpt.specs.Checkpoints.{checkpoint_of}
@@ -35,6 +35,10 @@ if_ok P Q (Err e) implies holds = tt
 pub if_both : {A E : Type 0} (P Q R : A → Type 0) (r : Result A E) → ((a : A) → P a → Q a → R a) → IfOk r P → IfOk r Q → IfOk r R
 if_both P Q R (Ok a) implies holds also = implies a holds also
 if_both P Q R (Err e) implies holds also = tt
+
+pub on_ok : {A E : Type 0} (P Q : A → Type 0) (R : Type 0) (r : Result A E) → ((a : A) → P a → Q a → R) → IfOk r P → IfOk r Q → OnOk r R
+on_ok P Q R (Ok a) implies holds also = implies a holds also
+on_ok P Q R (Err e) implies holds also = tt
 
 -- the state that was read of a file is the old rank's
 pub old_is : (old : Sizes) (files : List (List ℕ)) (rank : ℕ) (file : List ℕ) (state : State) → file ≡ get_or files rank [] → checkpoint_of part_at old rank file ≡ Ok state → state ≡ old_state old files rank

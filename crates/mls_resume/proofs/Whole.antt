@@ -1,16 +1,14 @@
 -- The parts of a list that were put one behind the other are the whole list, and the lists are those of the old states.
-use Rattle.std.proofs.Common.{◌≡◌, ℕ, ◌+◌, ◌<◌, arith, Bool, List, [], ◌∷◌, ◌++◌, length, map, get_or, refl, ap, sym, ◌∙◌, subst}
+use Rattle.std.proofs.Common.{◌≡◌, ℕ, ◌+◌, ◌<◌, arith, List, [], ◌∷◌, ◌++◌, length, get_or, refl, ap, sym, ◌∙◌, subst}
 use Rattle.std.proofs.lemmas.List.{append-nil}
 use Rattle.std.specs.Int.{w32}
 use Rattle.mls_model.specs.declared.outcomes.Counts.{Counts}
-use Rattle.mls_model.specs.Numbers.{below}
 use Rattle.mls_model.specs.Studies.{Sizes, planes}
-use Rattle.mls_model.specs.Completion.{Key}
 use Rattle.mls_ckpt.specs.Reading.{spelled}
 use Rattle.mls_ckpt.specs.States as states
-use Rattle.mls_ckpt.specs.States.{State}
+use Rattle.mls_ckpt.specs.States.{State, IsState}
+use Rattle.mls_ckpt.specs.CellParts.{IsSumsPart}
 use Rattle.mls_ckpt.specs.Spellings.{head_text, counts_text, marks_text, pending_text, spelled_state}
-use Rattle.mls_ckpt.specs.Histories.{marks_of}
 use Rattle.mls_ckpt.specs.Laws.{MarksAreTheirs}
 use Rattle.mls_resume.proofs.Listed.{at_made, length_made, below_more}
 use Rattle.mls_resume.proofs.Pieces.{list_more}
@@ -51,14 +49,15 @@ parts_long old files parts read = record {
 
 -- one rank more, whose marks are the same
 pub read_more : (old : Sizes) (files parts now : List (List ℕ)) (rank : ℕ) (part : List ℕ) → AreRead old files rank parts → now ≡ parts ++ part ∷ [] → part ≡ (old_state old files rank).part → length part ≡ part_size old rank
-    → HasCommon old files rank → AreRead old files (rank + 1) now
-read_more old files parts now rank part read pushed is long common = record {
+    → IsState IsSumsPart old rank (old_state old files rank) → HasCommon old files rank → AreRead old files (rank + 1) now
+read_more old files parts now rank part read pushed is long valid common = record {
   each = list_more (λ r. (old_state old files r).part) rank parts now part read.each pushed is;
   long = λ r within. below_more (λ r. length (old_state old files r).part ≡ part_size old r) rank read.long (ap length (sym is) ∙ long) r within;
+  valid = λ r within. below_more (λ r. IsState IsSumsPart old r (old_state old files r)) rank read.valid valid r within;
   common = λ r within. below_more (HasCommon old files) rank read.common common r within;
 }
 
 -- the first rank
-pub read_one : (old : Sizes) (files now : List (List ℕ)) (part : List ℕ) → now ≡ [] ++ part ∷ [] → part ≡ (old_state old files 0).part → length part ≡ part_size old 0 → AreRead old files 1 now
-read_one old files now part pushed is long =
-    read_more old files [] now 0 part (record { each = refl; long = λ r within. absurd (omega arith); common = λ r within. absurd (omega arith) }) pushed is long (λ plane plane_in group group_in. refl)
+pub read_one : (old : Sizes) (files now : List (List ℕ)) (part : List ℕ) → now ≡ [] ++ part ∷ [] → part ≡ (old_state old files 0).part → length part ≡ part_size old 0 → IsState IsSumsPart old 0 (old_state old files 0) → AreRead old files 1 now
+read_one old files now part pushed is long valid =
+    read_more old files [] now 0 part (record { each = refl; long = λ r within. absurd (omega arith); valid = λ r within. absurd (omega arith); common = λ r within. absurd (omega arith) }) pushed is long valid (λ plane plane_in group group_in. refl)

@@ -3,7 +3,8 @@ use Rattle.std.specs.Prelude.{◌≡◌, ℕ, ◌<◌, List, [], map, length, ge
 use Rattle.std.specs.Global.{Vec}
 use Rattle.mls_model.specs.Numbers.{below}
 use Rattle.mls_model.specs.Studies.{Sizes, planes}
-use Rattle.mls_ckpt.specs.States.{State}
+use Rattle.mls_ckpt.specs.States.{IsState}
+use Rattle.mls_ckpt.specs.CellParts.{IsSumsPart}
 use Rattle.mls_ledger.specs.MarkSets.{MarkSet, is_marked}
 use Rattle.mls_resume.specs.Recut.{old_state, has_old, HasCommon, part_size}
 
@@ -21,6 +22,7 @@ pub record AreFirst (old : Sizes) (files : List (List ℕ)) (marks : MarkSet) : 
 pub record AreRead (old : Sizes) (files : List (List ℕ)) (ranks : ℕ) (parts : List (List ℕ)) : Type 0 where
   pub each : parts ≡ map (λ rank. (old_state old files rank).part) (below ranks)
   pub long : (rank : ℕ) → rank < ranks → length (old_state old files rank).part ≡ part_size old rank
+  pub valid : (rank : ℕ) → rank < ranks → IsState IsSumsPart old rank (old_state old files rank)
   pub common : (rank : ℕ) → rank < ranks → HasCommon old files rank
 
 -- the part of each old rank's sums has its length

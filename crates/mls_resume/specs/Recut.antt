@@ -1,5 +1,5 @@
 -- The states of another number of ranks, which are cut from those of old ranks whose marks are the same.
-use Rattle.std.specs.Prelude.{◌≡◌, ℕ, zero, suc, ◌+◌, ◌-◌, ◌*◌, ◌<◌, Bool, not, List, [], ◌∷◌, ◌++◌, length, map, take, drop, get_or, sum, Option, None, Some, Result, Ok, Err, IsOk, ⊤}
+use Rattle.std.specs.Prelude.{◌≡◌, ℕ, zero, suc, ◌+◌, ◌-◌, ◌*◌, ◌<◌, Bool, not, List, [], ◌++◌, length, map, take, drop, get_or, sum, Option, None, Some, Ok, Err, IsOk, ⊤}
 use Rattle.mls_model.specs.declared.outcomes.Counts.{Counts}
 use Rattle.mls_model.specs.Numbers.{below}
 use Rattle.mls_model.specs.Studies.{Sizes, planes}

@@ -1,25 +1,29 @@
 //! Checkpoints of another number of ranks.
 
-ghost use Rattle.std.specs.Prelude.{◌≡◌, ℕ, ◌<◌, ◌≤◌, ◌*◌, ◌-◌, ◌++◌, [], length, sum, cond, vec_len, OnOk, IfOk, IfErr};
+ghost use Rattle.std.specs.Prelude.{◌≡◌, ℕ, ◌<◌, ◌≤◌, ◌*◌, ◌-◌, ◌++◌, [], length, sum, cond, vec_len, Ok, OnOk, IfOk, IfErr};
 ghost use Rattle.mls_base.specs.Shapes.{with_ranks};
 ghost use Rattle.mls_model.specs.Numbers.{below};
 ghost use Rattle.mls_model.specs.Studies.{planes};
 ghost use Rattle.mls_model.specs.Blocks.{overlaps};
 ghost use Rattle.mls_ckpt.specs.States.{overlapping};
 ghost use Rattle.mls_ckpt.specs.Spellings.{spelled_state};
+ghost use Rattle.mls_ckpt.specs.Checkpoints.{checkpoint_of};
+ghost use Rattle.mls_ckpt.specs.CellParts.{part_at};
 ghost use Rattle.mls_ledger.specs.MarkSets.{plane_counts};
 ghost use Rattle.mls_ledger.specs.MarkRows.{rows_of};
+ghost use Rattle.mls_resume.specs.Opening.{AreOpenings};
 ghost use Rattle.mls_resume.specs.Reads.{lists_of, AreFirst, AreRead, AreLong};
-ghost use Rattle.mls_resume.specs.Recut.{taken_counts, recut_counts, recut_of, recut_bytes, AreFiles, Recuts, Refuses};
+ghost use Rattle.mls_resume.specs.Recut.{taken_counts, recut_counts, recut_of, recut_bytes, recut_state, AreFiles, Recuts, Refuses};
 
 use crate::cells::put_part;
 use crate::faults::RecutFault;
 use crate::head::{put_counts, put_head};
 use crate::old_ranks::{push, read_ranks};
 use mls_base::faults::NoMemory;
+use mls_base::laws::{blocks_partition, rank_holds};
 use mls_base::shape::Shape;
 use mls_ckpt::Put;
-use mls_ckpt::laws::marks_are_tests;
+use mls_ckpt::laws::{marks_are_tests, saved_states_read_again};
 use mls_ledger::Marks;
 use mls_rank::Counts;
 use std::alloc::Global;
@@ -121,6 +125,8 @@ fn recut_rank(
 /// old ranks have, for each plane and cell the sums as they stand in the list of the cell's old rank, no pending pieces,
 /// and the counts of the pieces that were accepted.
 ///
+/// Each list is a checkpoint of the new rank and spells that state. A rank can go on from it.
+///
 /// `Differ` comes exactly where a rank's marks differ from those of rank 0: for the least such rank, then plane, then
 /// group.
 pub fn recut(
@@ -133,8 +139,17 @@ pub fn recut(
     requires files { AreFiles old.now (lists_of files.now) }
     ensures ok { IfOk result (λ lists. Recuts shape.now old.now (lists_of files.now) (lists_of lists.items)) }
     ensures err { IfErr result (λ fault. Refuses old.now (lists_of files.now) fault) }
+    ensures reads { OnOk result ((rank : ℕ) → rank < shape.now.ranks →
+        checkpoint_of part_at shape.now rank (recut_bytes shape.now old.now (lists_of files.now) rank)
+        ≡ Ok (recut_state shape.now old.now (lists_of files.now) rank)) }
+    ensures openings { IfOk result (λ lists. AreOpenings part_at shape.now (lists_of lists.items)) }
 {
     marks_are_tests();
+    blocks_partition();
+    rank_holds();
+    saved_states_read_again();
+    old.valid();
+    shape.valid();
     let (marks, parts) = read_ranks(alloc, old, files)?;
     marks.valid();
     let mut lists = Vec::new(alloc);

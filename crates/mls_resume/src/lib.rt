@@ -2,12 +2,14 @@
 #![tactic(auto)]
 
 mod cells;
+pub mod checking;
 pub mod cutting;
 pub mod faults;
 mod head;
 mod old_ranks;
 pub mod opening;
 
+pub use checking::check_opening;
 pub use cutting::recut;
 pub use faults::RecutFault;
 pub use opening::open_rank;

@@ -2,10 +2,10 @@
 
 ghost use Rattle.std.specs.Prelude.{◌≡◌, ◌≢◌, ℕ, ◌<◌, ◌≤◌, Bool, false, [], ◌∷◌, ◌++◌, length, vec_len, get_or, Ok, IsOk, IfOk, IfErr, OnOk, IfSome, IsNone};
 ghost use Rattle.mls_model.specs.Studies.{planes};
-ghost use Rattle.mls_ckpt.specs.CellParts.{part_at};
+ghost use Rattle.mls_ckpt.specs.CellParts.{part_at, IsSumsPart};
 ghost use Rattle.mls_ckpt.specs.Checkpoints.{checkpoint_of};
 ghost use Rattle.mls_ckpt.specs.Reading.{AreBytes};
-ghost use Rattle.mls_ckpt.specs.States.{is_marked as marks_key};
+ghost use Rattle.mls_ckpt.specs.States.{IsState, is_marked as marks_key};
 ghost use Rattle.mls_ledger.specs.MarkSets.{is_marked};
 ghost use Rattle.mls_rank.specs.Cores.{sizes_of, has_mark};
 ghost use Rattle.mls_rank.specs.Saving.{state_of};
@@ -44,6 +44,7 @@ fn recovered(
     ensures marks { IfOk result (λ core. (group plane : ℕ) → has_mark core group plane
         ≡ marks_key (state_of core).marks (record { group = group; plane = plane })) }
     ensures long { IfOk result (λ core. length (state_of core).part ≡ part_size old.now rank) }
+    ensures valid { IfOk result (λ core. IsState IsSumsPart old.now rank (state_of core)) }
 {
     saved_states_are_spelled();
     old.valid();
@@ -72,6 +73,7 @@ fn read_rank(
     ensures marks { IfOk result (λ core. (group plane : ℕ) →
         has_mark core group plane ≡ has_old old.now (lists_of files.now) rank group plane) }
     ensures long { IfOk result (λ core. length (state_of core).part ≡ part_size old.now rank) }
+    ensures valid { OnOk result (IsState IsSumsPart old.now rank (old_state old.now (lists_of files.now) rank)) }
 {
     let file = &files[rank as usize];
     recovered(alloc, old, rank, file.as_slice())
@@ -161,6 +163,7 @@ fn read_other(
     requires first { AreFirst old.now (lists_of files.now) marks.now }
     ensures part { IfOk result (λ part. part.items ≡ (old_state old.now (lists_of files.now) other).part) }
     ensures long { IfOk result (λ part. vec_len part ≡ part_size old.now other) }
+    ensures valid { OnOk result (IsState IsSumsPart old.now other (old_state old.now (lists_of files.now) other)) }
     ensures common { OnOk result (HasCommon old.now (lists_of files.now) other) }
     ensures refused { IfErr result (λ fault. ((rank : ℕ) → rank < other → HasCommon old.now (lists_of files.now) rank)
         → Refuses old.now (lists_of files.now) fault) }
@@ -186,6 +189,7 @@ fn read_first(alloc: Global, old: &Shape, files: &[Vec<u8>]) -> Result<(Marks, V
     ensures marks { IfOk result (λ read. AreFirst old.now (lists_of files.now) read.0) }
     ensures part { IfOk result (λ read. read.1.items ≡ (old_state old.now (lists_of files.now) 0).part) }
     ensures long { IfOk result (λ read. vec_len read.1 ≡ part_size old.now 0) }
+    ensures valid { OnOk result (IsState IsSumsPart old.now 0 (old_state old.now (lists_of files.now) 0)) }
 {
     old.valid();
     let core = read_rank(alloc, old, files, 0)?;

@@ -1,12 +1,12 @@
 //! A rank that goes on from a list of bytes.
 
-ghost use Rattle.std.specs.Prelude.{◌≡◌, ◌<◌, [], ◌∷◌, ◌++◌, List, Some, false, Ok, IsOk, IfOk, IfErr};
+ghost use Rattle.std.specs.Prelude.{◌≡◌, ℕ, ◌^◌, ◌<◌, ◌≤◌, [], ◌∷◌, ◌++◌, List, Some, false, Ok, IsOk, IfOk, IfErr};
 ghost use Rattle.mls_model.specs.Histories.{LaneEvent};
 ghost use Rattle.mls_ckpt.specs.Checkpoints.{checkpoint_of};
 ghost use Rattle.mls_rank.specs.Saving.{state_of};
 ghost use Rattle.mls_rank.specs.Standing.{StandsFor};
-ghost use Rattle.mls_book.specs.SavedRanks.{core_of, study_of, number_of, saved_of, opening_of, keeper_of, CarriesHistory};
-ghost use Rattle.mls_resume.specs.Opening.{saved_event};
+ghost use Rattle.mls_book.specs.SavedRanks.{core_of, study_of, number_of, saved_of, opening_of, keeper_of, total_of, CarriesHistory, CountsFew};
+ghost use Rattle.mls_resume.specs.Opening.{saved_event, IsOpening, OpensWith};
 
 use crate::old_ranks::are_bytes;
 use mls_base::outside::Keeper;
@@ -39,6 +39,11 @@ pub fn open_rank<F: RowFold, K: Keeper + Drop>(
     ensures opening { IfOk result (λ x. opening_of x ≡ Some bytes.items) }
     ensures carries { IfOk result (λ x. (h : List LaneEvent) → StandsFor (core_of x) h →
         CarriesHistory x (h ++ saved_event ∷ []) []) }
+    ensures goes_on { IfOk result (λ x. (before : List LaneEvent) →
+        OpensWith F.RowFold shape.now rank bytes.items before → CarriesHistory x (before ++ saved_event ∷ []) []) }
+    ensures few { (most : ℕ) → IsOpening F.part_at shape.now rank most bytes.items →
+        IfOk result (λ x. CountsFew x most) }
+    ensures total { IfOk result (λ x. total_of x ≤ 2 ^ 62) }
     ensures refused { IfErr result (λ refused. refused.keeper ≡ keeper) }
 {
     states_are_spelled();

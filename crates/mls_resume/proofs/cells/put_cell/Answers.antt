@@ -1,7 +1,6 @@
-use Rattle.std.proofs.Common.{◌≡◌, ◌≤◌, ◌<◌, ◌+◌, ◌*◌, ◌-◌, length, get_or, [], arith, ap, sym, ◌∙◌}
+use Rattle.std.proofs.Common.{◌*◌, ◌-◌, length, arith, ap, ◌∙◌}
 use Rattle.mls_model.specs.Studies.{planes}
 use Rattle.mls_model.specs.Blocks.{block, width}
-use Rattle.mls_resume.specs.Reads.{lists_of}
 use Rattle.mls_resume.proofs.Pieces.{place_fits, at_list, files_long}
 use Rattle.mls_resume.proofs.cells.put_cell.Goals as goal
 

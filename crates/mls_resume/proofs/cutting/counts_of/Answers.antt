@@ -1,4 +1,4 @@
-use Rattle.std.proofs.Common.{◌≡◌, ℕ, ◌-◌, ◌*◌, ap, sym, ◌∙◌, map}
+use Rattle.std.proofs.Common.{◌-◌, ap, sym, ◌∙◌, map}
 use Rattle.std.specs.Prelude.{sum}
 use Rattle.mls_ckpt.specs.States as states
 use Rattle.mls_ledger.specs.MarkRows.{rows_of}

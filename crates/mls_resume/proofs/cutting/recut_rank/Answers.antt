@@ -1,5 +1,4 @@
-use Rattle.std.proofs.Common.{◌≡◌, ◌++◌, [], refl, ap, sym, ◌∙◌}
-use Rattle.mls_ckpt.specs.Spellings.{counts_text}
+use Rattle.std.proofs.Common.{refl, ◌∙◌}
 use Rattle.mls_ledger.specs.MarkRows.{rows_of}
 use Rattle.mls_resume.specs.Reads.{lists_of}
 use Rattle.mls_resume.specs.Recut.{recut_of}

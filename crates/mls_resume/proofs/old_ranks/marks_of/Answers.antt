@@ -1,4 +1,4 @@
-use Rattle.std.proofs.Common.{ap, sym, ◌∙◌, subst, ◌<◌}
+use Rattle.std.proofs.Common.{sym, ◌∙◌, subst, ◌<◌}
 use Rattle.mls_rank.specs.Cores.{has_mark}
 use Rattle.mls_resume.proofs.Marks.{with_plane, past_plane}
 use Rattle.mls_resume.proofs.old_ranks.marks_of.Goals as goal

@@ -1,13 +1,12 @@
-use Rattle.std.proofs.Common.{◌≡◌, ◌<◌, ℕ, [], length, get_or, Ok, subst, ap, sym, ◌∙◌, arith}
+use Rattle.std.proofs.Common.{◌<◌, length, subst, ap, sym, ◌∙◌}
 use Rattle.std.specs.Prelude.{IsOk}
-use Rattle.mls_ckpt.specs.CellParts.{part_at}
+use Rattle.mls_ckpt.specs.CellParts.{part_at, IsSumsPart}
 use Rattle.mls_ckpt.specs.Checkpoints.{checkpoint_of}
 use Rattle.mls_ckpt.specs.States as states
-use Rattle.mls_rank.specs.Cores.{has_mark}
+use Rattle.mls_ckpt.specs.States.{IsState}
 use Rattle.mls_rank.specs.Saving.{state_of}
 use Rattle.mls_resume.specs.Reads.{lists_of}
-use Rattle.mls_resume.specs.Recut.{old_state, has_old}
-use Rattle.mls_resume.proofs.Marks.{if_ok, if_both, old_is}
+use Rattle.mls_resume.proofs.Marks.{if_ok, if_both, on_ok, old_is}
 use Rattle.mls_resume.proofs.Pieces.{at_list, files_long}
 use Rattle.mls_resume.proofs.old_ranks.read_rank.Goals as goal
 
@@ -26,3 +25,7 @@ returns-clause-state c =
 pub returns-clause-marks : goal.returns-clause-marks
 returns-clause-marks c =
     if_both _ _ _ c.recovered.result (λ core state marks. λ group plane. marks group plane ∙ ap (λ (x : states.State). states.is_marked x.marks (record { group = group; plane = plane })) state) (returns-clause-state c) c.recovered.ensures.marks
+
+pub returns-clause-valid : goal.returns-clause-valid
+returns-clause-valid c =
+    on_ok _ _ _ c.recovered.result (λ core state valid. subst (IsState IsSumsPart c.args.old.now c.args.rank) state valid) (returns-clause-state c) c.recovered.ensures.valid

@@ -13,3 +13,7 @@ returns-in-Ok-clause-long c =
     let state = state_of c.in-Ok.core in
     let spells = c.saved_states_are_spelled.ensures s c.args.rank c.args.file.now state c.valid.ensures c.are_bytes.ensures c.in-Ok.ensures.read in
     part_long s c.args.rank (marks_of_planes s state.marks) state.part spells.valid.part
+
+pub returns-in-Ok-clause-valid : goal.returns-in-Ok-clause-valid
+returns-in-Ok-clause-valid c =
+    (c.saved_states_are_spelled.ensures c.args.old.now c.args.rank c.args.file.now (state_of c.in-Ok.core) c.valid.ensures c.are_bytes.ensures c.in-Ok.ensures.read).valid
