@@ -1,5 +1,5 @@
 -- What the answers of polls say.
-use Rattle.std.specs.Prelude.{◌≡◌, ℕ, Result, Ok, Err, ⊤}
+use Rattle.std.specs.Prelude.{◌≡◌, ℕ, ◌+◌, Result, Ok, Err, ⊤}
 use Rattle.mls_base.specs.Told.{Rose}
 use Rattle.futures.specs.declared.task.Poll.{Poll}
 use Rattle.futures.specs.declared.task.Poll.TheVariants.{Ready, Pending}
@@ -26,3 +26,9 @@ CountsFault Pending before now = now ≡ before
 abbrev pub CountsWait : {A : Type 0} → Poll A → ℕ → ℕ → Type 0
 CountsWait (Ready x) before now = now ≡ before
 CountsWait Pending before now = Rose before now
+
+-- the count of what was given rose by one where something was given, and else stands
+abbrev pub CountsAccept : {A E : Type 0} → Poll (Result A E) → ℕ → ℕ → Type 0
+CountsAccept (Ready (Ok x)) before now = now ≡ before + 1
+CountsAccept (Ready (Err e)) before now = now ≡ before
+CountsAccept Pending before now = now ≡ before

@@ -10,7 +10,7 @@ ghost use Rattle.futures.specs.Task.{Covers, Keeps};
 ghost use Rattle.futures.specs.Poll.{OnPending};
 ghost use Rattle.mls_base.specs.Told.{MayCease, StaysSound};
 ghost use Rattle.mls_wire.specs.Links.{Talk, Gives, IsFresh, after_read, after_write};
-ghost use Rattle.mls_poll.specs.Polls.{IfGiven, OnFailed, CountsFault, CountsWait};
+ghost use Rattle.mls_poll.specs.Polls.{IfGiven, OnFailed, CountsFault, CountsWait, CountsAccept};
 
 use futures::task::{Context, Poll};
 use mls_base::faults::Failed;
@@ -29,7 +29,7 @@ pub trait PollLink {
     /// How many more bytes the link takes for sure. While it isn't 0 a write doesn't fail.
     ghost sure: { Self → ℕ };
 
-    /// How many reads were pending.
+    /// How many calls were pending.
     ghost waits: { Self → ℕ };
 
     /// The source that a pending read registers with.
@@ -65,7 +65,7 @@ pub trait PollLink {
         ensures ceased { OnFailed result (MayCease (told self.old) (told self.new)) }
         ensures still { OnPending result (told self.new ≡ told self.old) }
         ensures faults { CountsFault result (faults self.old) (faults self.new) }
-        ensures waits { waits self.new ≡ waits self.old }
+        ensures waits { CountsWait result (waits self.old) (waits self.new) }
         ensures sound { StaysSound (sound self.old) (sound self.new) }
         ensures sure { IfGiven result (λ n. sure self.old ≤ sure self.new + n) }
         ensures unsure { OnFailed result (sure self.old ≡ 0) }
@@ -84,12 +84,16 @@ pub trait PollDoor {
     /// How many calls were pending.
     ghost waits: { Self → ℕ };
 
+    /// How many links were handed out.
+    ghost accepts: { Self → ℕ };
+
     /// The source that a pending call registers with.
     ghost acceptable: { Self → ℕ };
 
     /// The next connection that comes. After `Failed`, and while it is pending, none is handed out.
     fn poll_accept(&mut self, cx: &mut Context<'_>) -> Poll<Result<Self::L, Failed>>
         ensures fresh { IfGiven result (λ link. IsFresh (Self.L.faults link) (Self.L.told link)) }
+        ensures accepts { CountsAccept result (accepts self.old) (accepts self.new) }
         ensures faults { CountsFault result (faults self.old) (faults self.new) }
         ensures waits { CountsWait result (waits self.old) (waits self.new) }
         ensures registered { OnPending result (Covers cx.new (λ source. source ≡ acceptable self.new)) }

@@ -206,7 +206,7 @@ impl<L: PollLink + Drop> FrameStream<L> {
     ghost use Rattle.mls_model.specs.Frames.{Frame};
     ghost use Rattle.mls_wire.specs.Links.{after_write};
     ghost use Rattle.mls_poll.specs.Polls.{IfGiven, OnFailed, CountsFault, CountsWait};
-    ghost use Rattle.mls_poll.specs.Streams.{HasGiven, ended_by};
+    ghost use Rattle.mls_poll.specs.Streams.{most_bytes, HasGiven, ended_by};
     ghost use Rattle.mls_poll.specs.Looks.{Goes};
 
     /// A stream that gave nothing yet. For want of memory the link comes back.
@@ -226,6 +226,13 @@ impl<L: PollLink + Drop> FrameStream<L> {
             }),
             Err(_) => Err(link),
         }
+    }
+
+    /// A stream has no more bytes than it may have.
+    pub fn valid(&self)
+        ensures { self.now.offset + length self.now.held ≤ most_bytes }
+    {
+        let _ = &self.link;
     }
 
     /// The link, to be looked at.
@@ -251,7 +258,7 @@ impl<L: PollLink + Drop> FrameStream<L> {
         ensures ceased { OnFailed result (MayCease (L.told self.old.link) (L.told self.new.link)) }
         ensures still { OnPending result (L.told self.new.link ≡ L.told self.old.link) }
         ensures faults { CountsFault result (L.faults self.old.link) (L.faults self.new.link) }
-        ensures waits { L.waits self.new.link ≡ L.waits self.old.link }
+        ensures waits { CountsWait result (L.waits self.old.link) (L.waits self.new.link) }
         ensures sound { StaysSound (L.sound self.old.link) (L.sound self.new.link) }
         ensures sure { IfGiven result (λ n. L.sure self.old.link ≤ L.sure self.new.link + n) }
         ensures unsure { OnFailed result (L.sure self.old.link ≡ 0) }

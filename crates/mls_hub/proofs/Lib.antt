@@ -1,0 +1,10 @@
+pub mod Connecting
+pub mod Histories
+pub mod Elements
+pub mod Seats
+pub mod Hallways
+pub mod Leaving
+pub mod Laning
+pub mod Offers
+pub mod Going
+pub mod Turnings

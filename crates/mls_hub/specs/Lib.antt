@@ -1,0 +1,5 @@
+pub mod Lanes
+pub mod Books
+pub mod Connections
+pub mod Halls
+pub mod Turns
