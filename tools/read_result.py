@@ -30,6 +30,8 @@ BINS = 64
 OUTCOMES = ["accepted", "kept", "replay", "stale", "repeated"]
 REASONS = ["lane kind", "rows", "group", "step", "client", "cells"]
 
+WATCH = b"melissa-watch 1\n"  # the first line of a watch text, which stands behind a result of `melissad serve`
+
 # Words of the texts.
 COUNT = "(0|[1-9][0-9]{0,17})"  # below 2^63
 WHOLE = "(0|-?[1-9][0-9]{0,38})"
@@ -176,10 +178,11 @@ class Lines:
         return FormError(self.name, number, f"'{shown}'{newline}, but {wanted} should stand here")
 
     def end(self):
-        """The last line, and nothing behind it."""
+        """The last line, and nothing behind it but the watch text of a server, which is not read."""
         self.words("end", "end")
         for line in self.take(1):
-            raise self.fault(self.taken, line, "nothing")
+            if line != WATCH:
+                raise self.fault(self.taken, line, "nothing")
 
 
 # What stands before the cells.
@@ -638,6 +641,7 @@ FAULTS = [
     (TWO_GROUPS, b"end\n", b"", 10),
     (TWO_GROUPS, b"end\n", b"end", 10),
     (TWO_GROUPS, b"end\n", b"end\nend\n", 11),
+    (TWO_GROUPS, b"end\n", b"end\nmelissa-watch 2\n", 11),
     (TWO_FIELDS, b"v cell 0", b"u cell 0", 14),
     (TWO_FIELDS, b"lane 3", b"lane 1", 5),
     (TWO_FIELDS, b"-3 65535", b"-3 9223372036854775808", 6),
@@ -672,6 +676,11 @@ def test_two_groups():
     same((quotient(result.third).tolist(), mean(result.powers, result.groups).tolist()), ([[[2.25]]], [[[2.5]]]))
     same((result.first.tolist(), result.total.tolist()), ([[[[1.0]]]], [[[[2.0]]]]))
     same(result.covariances, [[[[[4, -8, 16, 4, 4]]]]])
+
+
+def test_served():
+    watch = b"melissa-watch 1\n0 start 0 1\nend running 1 waiting 1 finished 0 givenup 0\n"
+    same(read_bytes(TWO_GROUPS + watch).powers, [[[[10, 36, 154, 708]]]])
 
 
 def test_two_fields():
@@ -712,6 +721,7 @@ def test_faults():
 
 def self_test():
     test_two_groups()
+    test_served()
     test_two_fields()
     test_bins_and_trial()
     test_faults()
