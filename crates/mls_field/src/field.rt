@@ -15,7 +15,7 @@ use crate::copied::{
 use crate::ends::clear_ends;
 use crate::fold::RowFold;
 use crate::gathered::gather;
-use crate::put::{CELL_BYTES, put_cell};
+use crate::put::{CELL_BYTES, ROOM_BEHIND, put_cell};
 use crate::stored::take_planes;
 use mls_base::faults::NoMemory;
 use mls_base::rows::Rows;
@@ -120,7 +120,7 @@ impl RowFold for Field {
     }
 
     fn put(&self, out: &mut Put) -> Result<(), NoMemory> {
-        out.reserve(self.part_size())?;
+        out.reserve(self.part_size().saturating_add(ROOM_BEHIND))?;
         let mut copies = Copies::new();
         for step in 0..self.shape.planes() {
             self.put_plane(step, &mut copies, out)?;

@@ -17,6 +17,10 @@ use byteorder::{BigEndian, ByteOrder};
 use mls_base::shape::Shape;
 use mls_power::exceed::MOST_THRESHOLDS;
 
+/// Room for what a checkpoint has behind its sums, in bytes, taken in one go with that of the sums: else the list would
+/// double for its last bytes.
+pub(crate) const ROOM_BEHIND: usize = 4096;
+
 /// How many bytes a cell has at most.
 pub(crate) const CELL_BYTES: usize = 52 + 4 * MOST_THRESHOLDS + 8 * (MOST_SUMS - 4);
 

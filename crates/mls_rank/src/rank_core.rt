@@ -27,7 +27,7 @@ ghost use Rattle.mls_rank.specs.Counting.{no_counts, is_idle, is_saved, is_crash
 
 use crate::counting::{is_not_counted, no_events, one_more};
 use crate::recovering::{take_counts, take_end, take_head};
-use crate::saving::{ROOM_BEHIND_SUMS, put_counts, put_head};
+use crate::saving::{put_counts, put_head};
 use mls_assembly::{Assembled, GroupStep, Pending};
 use mls_base::faults::NoMemory;
 use mls_base::rows::Rows;
@@ -374,7 +374,6 @@ impl<F: RowFold> RankCore<F> {
         put_counts(&self.counts, &mut out)?;
         self.marks.put(&mut out)?;
         self.fold.put(&mut out)?;
-        out.reserve(ROOM_BEHIND_SUMS)?;
         self.pending.put(&mut out)?;
         Ok(out.finish())
     }

@@ -16,10 +16,6 @@ pub(crate) const MAGIC: u32 = 0x4d43_4b50;
 /// The version that is written.
 pub(crate) const VERSION: u16 = 3;
 
-/// Room for the pending pieces' number and the first of them, in bytes, taken in one go behind the sums: else the list
-/// would double for its last bytes.
-pub(crate) const ROOM_BEHIND_SUMS: usize = 4096;
-
 // Appends the number of thresholds and the thresholds.
 fn put_thresholds(shape: &Shape, out: &mut Put) -> Result<(), NoMemory>
     ensures { OnOk result (out.new ≡ out.old ++ texts sized_text (threshold_numbers shape.now) []) }

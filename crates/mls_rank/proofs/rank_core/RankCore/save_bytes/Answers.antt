@@ -1,5 +1,4 @@
-use Rattle.std.proofs.Common.{[], ◌++◌, refl, ap, ◌∙◌}
-use Rattle.mls_ckpt.specs.Spellings.{pending_text}
+use Rattle.std.proofs.Common.{refl, ◌∙◌}
 use Rattle.mls_rank.specs.Cores.{sizes_of, rank_of}
 use Rattle.mls_rank.specs.Saving.{state_of}
 use Rattle.mls_rank.proofs.HeadTexts.{whole_text}
@@ -10,8 +9,7 @@ pub returns-clause-spelled : goal.returns-clause-spelled
 returns-clause-spelled g c =
     c.finish.ensures
     ∙ whole_text (sizes_of c.args.self.now) (rank_of c.args.self.now) (state_of c.args.self.now) c.new-out.result c.put_head.new.out c.put_counts.new.out c.put.new.out c.put-2.new.out c.put-3.new.out
-    c.new-out.ensures c.in_ok-put_head.ensures c.in_ok-put_counts.ensures c.in_ok-put.ensures c.in_ok-put-2.ensures
-    (c.in_ok-put-3.ensures ∙ ap (λ l. l ++ pending_text (state_of c.args.self.now).pending []) c.reserve.ensures)
+    c.new-out.ensures c.in_ok-put_head.ensures c.in_ok-put_counts.ensures c.in_ok-put.ensures c.in_ok-put-2.ensures c.in_ok-put-3.ensures
 
 pub returns-clause-history : goal.returns-clause-history
 returns-clause-history g c = λ history st.
