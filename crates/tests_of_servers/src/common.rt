@@ -86,7 +86,7 @@ pub(crate) fn serve<R: Threads + Wait + Sync, K: Keeper + Drop + Send, G: Gate +
     for word in ["serve", "study", "door", connections] {
         words.push(String::from_str(alloc, word)?)?;
     }
-    let Ok(mut sink) = MemSink::new(alloc, 1000, Vec::new(alloc)) else {
+    let Ok(mut sink) = MemSink::new(alloc, 10_000, Vec::new(alloc)) else {
         return Err(AllocError);
     };
     let (status, keepers, _) = melissad(

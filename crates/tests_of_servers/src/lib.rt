@@ -9,3 +9,5 @@ mod held;
 mod meeting;
 #[cfg(test)]
 mod rows;
+#[cfg(test)]
+mod twelve;

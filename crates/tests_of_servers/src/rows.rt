@@ -17,9 +17,17 @@ use std::thread::Threads;
 const STUDY: &[u8] =
     b"cells = 1\nsteps = 1\ngroups = 2\nslots = 2\nstatistics = [\"power\", \"sobol\"]\n[[parameters]]\nname = \"x\"\nlow = 0\nhigh = 9\n";
 
+// The same of one slot.
+const ONE_SLOT_STUDY: &[u8] =
+    b"cells = 1\nsteps = 1\ngroups = 2\nslots = 1\nstatistics = [\"power\", \"sobol\"]\n[[parameters]]\nname = \"x\"\nlow = 0\nhigh = 9\n";
+
 // The powers of 7 and 9, and what a launcher with two slots does.
 const TEXT: &[u8] =
     b"melissa-result 1\nstudy cells 1 steps 1 groups 2 parameters 1 ranks 1 clients 1\nrank 0 accepted 1 kept 0 replay 0 stale 0 repeated 0 foreign 0 0 0 0 0 0\nlane 1 rank 0 client events 1 clean\nstep 0 cell 0 groups 1\npower 16 130 1072 8962\nvariance 4/2\nthird 0/8\nsobol x - - 0 0 0 0 0\nend\nmelissa-watch 1\n0 start 0 1\n0 start 1 1\nend running 2 waiting 0 finished 0 givenup 0\n";
+
+// The same powers, and what a launcher with one slot does.
+const ONE_SLOT_TEXT: &[u8] =
+    b"melissa-result 1\nstudy cells 1 steps 1 groups 2 parameters 1 ranks 1 clients 1\nrank 0 accepted 1 kept 0 replay 0 stale 0 repeated 0 foreign 0 0 0 0 0 0\nlane 1 rank 0 client events 1 clean\nstep 0 cell 0 groups 1\npower 16 130 1072 8962\nvariance 4/2\nthird 0/8\nsobol x - - 0 0 0 0 0\nend\nmelissa-watch 1\n0 start 0 1\nend running 1 waiting 1 finished 0 givenup 0\n";
 
 // Nothing came.
 const NONE_TEXT: &[u8] =
@@ -47,10 +55,11 @@ fn one(alloc: Global, link: MemLink) -> Result<Vec<MemLink>, AllocError>
     Ok(links)
 }
 
-/// One connection with the piece. Calls of the door, of the link and of the first keeper fail.
+/// One connection with the piece, for a study. Calls of the door, of the link and of the first keeper fail.
 fn serve_one<R: Threads + Wait + Sync>(
     rt: &R,
     alloc: Global,
+    study: &[u8],
     door: Vec<u64>,
     reads: Vec<u64>,
     puts: Vec<u64>,
@@ -60,7 +69,7 @@ fn serve_one<R: Threads + Wait + Sync>(
     serve(
         rt,
         alloc,
-        STUDY,
+        study,
         "1",
         MemDoor::new(alloc, links, door),
         keepers,
@@ -71,10 +80,27 @@ fn serve_one<R: Threads + Wait + Sync>(
 #[test]
 fn connection_is_served(rt: HostRuntime) {
     let alloc = rt.alloc();
-    let left = serve_one(&rt, alloc, none(alloc), none(alloc), none(alloc)).expect(&rt, "memory");
+    let left = serve_one(&rt, alloc, STUDY, none(alloc), none(alloc), none(alloc)).expect(
+        &rt, "memory",
+    );
     assert!(rt; matches!(left.status, Status::Done) && left.text.as_slice() == TEXT);
     let kept = left.keepers.first().and_then(|keeper| keeper.held());
     assert!(rt; kept.is_some_and(|bytes| bytes.len() == 249));
+}
+
+#[test]
+fn second_group_waits_for_a_slot(rt: HostRuntime) {
+    let alloc = rt.alloc();
+    let left = serve_one(
+        &rt,
+        alloc,
+        ONE_SLOT_STUDY,
+        none(alloc),
+        none(alloc),
+        none(alloc),
+    )
+    .expect(&rt, "memory");
+    assert!(rt; matches!(left.status, Status::Done) && left.text.as_slice() == ONE_SLOT_TEXT);
 }
 
 #[test]
@@ -82,13 +108,15 @@ fn failed_calls_are_told(rt: HostRuntime) {
     let alloc = rt.alloc();
     for number in [0_u64, 1] {
         let fails = call(alloc, number).expect(&rt, "memory");
-        let left = serve_one(&rt, alloc, fails, none(alloc), none(alloc)).expect(&rt, "memory");
+        let left = serve_one(&rt, alloc, STUDY, fails, none(alloc), none(alloc)).expect(
+            &rt, "memory",
+        );
         assert!(rt; matches!(left.status, Status::DoorFault) && left.text.is_empty());
     }
     let fails = call(alloc, 0).expect(&rt, "memory");
-    let left = serve_one(&rt, alloc, none(alloc), fails, none(alloc)).expect(&rt, "memory");
+    let left = serve_one(&rt, alloc, STUDY, none(alloc), fails, none(alloc)).expect(&rt, "memory");
     assert!(rt; matches!(left.status, Status::Done) && left.text.as_slice() == NONE_TEXT);
     let fails = call(alloc, 1).expect(&rt, "memory");
-    let left = serve_one(&rt, alloc, none(alloc), none(alloc), fails).expect(&rt, "memory");
+    let left = serve_one(&rt, alloc, STUDY, none(alloc), none(alloc), fails).expect(&rt, "memory");
     assert!(rt; matches!(left.status, Status::KeeperFault { rank: 0 }) && left.text.is_empty());
 }
