@@ -1,5 +1,5 @@
 -- The lists of bytes that ranks go on from, and the save that stands behind the history of such a rank.
-use Rattle.std.specs.Prelude.{◌≡◌, ℕ, ◌+◌, ◌*◌, ◌^◌, ◌<◌, ◌≤◌, true, List, [], length, get_or, take, sum, Err, IsOk, IsOkAnd, ◌⊎◌, ⊤}
+use Rattle.std.specs.Prelude.{◌≡◌, ℕ, ◌+◌, ◌*◌, ◌^◌, ◌<◌, ◌≤◌, true, List, [], length, get_or, take, sum, Ok, Err, IsOkAnd, ◌⊎◌, ⊤}
 use Rattle.mls_model.specs.declared.lanes.LaneKind.TheVariants.{Control}
 use Rattle.mls_model.specs.Frames.{save}
 use Rattle.mls_model.specs.Studies.{Sizes}
@@ -41,9 +41,11 @@ pub record PassesWith (counts : List ℕ) (count : ℕ) : Type 0 where
   pub few : sum (take count counts) ≤ 2 ^ 61
   pub passes : 2 ^ 61 < sum (take (count + 1) counts)
 
--- The bytes spell a state whose counts add up to more. This is the first byte of the one with which their sum passes it.
-pub record PassesAt (s : Sizes) (rank : ℕ) (bytes : List ℕ) (at : ℕ) : Type 0 where
+-- The bytes are the checkpoint of a state whose counts add up to more. This is the first byte of the one with which their sum passes
+-- it.
+pub record PassesAt (part_at : Sizes → ℕ → List ℕ → Cursor → Read Cursor) (s : Sizes) (rank : ℕ) (bytes : List ℕ) (at : ℕ) : Type 0 where
   pub state : State
+  pub read : checkpoint_of part_at s rank bytes ≡ Ok state
   pub version : ℕ
   pub is_read : is_read s version ≡ true
   pub spelled : bytes ≡ spelled_state version s rank state
@@ -53,5 +55,5 @@ pub record PassesAt (s : Sizes) (rank : ℕ) (bytes : List ℕ) (at : ℕ) : Typ
 
 -- The bytes are no checkpoint, at their first fault. Or they are one, and their counts pass what a rank that goes on may have counted.
 abbrev pub RefusesOpening : (Sizes → ℕ → List ℕ → Cursor → Read Cursor) → Sizes → (rank : ℕ) → List ℕ → RecoverFault → Type 0
-RefusesOpening part_at s rank bytes (Bad at why) = (checkpoint_of part_at s rank bytes ≡ Err (record { at = at; why = why })) ⊎ (IsOk (checkpoint_of part_at s rank bytes) × (why ≡ Range) × PassesAt s rank bytes at)
+RefusesOpening part_at s rank bytes (Bad at why) = (checkpoint_of part_at s rank bytes ≡ Err (record { at = at; why = why })) ⊎ ((why ≡ Range) × PassesAt part_at s rank bytes at)
 RefusesOpening part_at s rank bytes Memory = ⊤

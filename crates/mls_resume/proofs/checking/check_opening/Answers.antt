@@ -1,5 +1,5 @@
-use Rattle.std.proofs.Common.{refl, sym, ap, ◌∙◌, subst, inr, ◌≡◌, ℕ, ◌+◌, ◌*◌, []}
-use Rattle.std.specs.Prelude.{IsOk, length}
+use Rattle.std.proofs.Common.{refl, ap, ◌∙◌, subst, inr, ◌≡◌, ℕ, ◌+◌, ◌*◌, []}
+use Rattle.std.specs.Prelude.{length}
 use Rattle.mls_model.specs.declared.outcomes.Counts.{Counts}
 use Rattle.mls_ckpt.specs.Spellings.{counts_list, head_text}
 use Rattle.mls_rank.specs.Saving.{state_of}
@@ -13,10 +13,10 @@ returns-in-Some-clause-err c =
     let spells = c.saved_states_are_spelled.ensures s c.args.rank c.args.bytes.now state c.valid.ensures c.are_bytes.ensures c.in-Ok.ensures.read in
     let version : c.version_of.result ≡ spells.version = c.version_of.ensures s c.args.rank spells.version state spells.is_read spells.spelled in
     inr (
-      subst IsOk (sym c.in-Ok.ensures.read) refl,
       refl,
       record {
         state = state;
+        read = c.in-Ok.ensures.read;
         version = spells.version;
         is_read = spells.is_read;
         spelled = spells.spelled;
