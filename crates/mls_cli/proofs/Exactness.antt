@@ -1,6 +1,6 @@
 -- An answer that agrees with what is right is exact and complete.
 use Rattle.std.proofs.Common.{◌≡◌, ℕ, Bool, true, IsTrue, List, length, ◌≤◌, Option, Some, None, Result, Ok, Err, refl, sym, ap, subst, ◌∙◌, inl, inr, ⊎_elim, ◌⊎◌, arith}
-use Rattle.std.specs.Prelude.{IfSome, IsSome, IsSomeAnd}
+use Rattle.std.specs.Prelude.{IfSome, IsSome, IsSomeAnd, ⊤}
 use Rattle.mls_ckpt.specs.declared.faults.CkptWhy.TheVariants.{Absent}
 use Rattle.mls_model.specs.Numbers.{element}
 use Rattle.std.proofs.lemmas.Bool.{true≢false}
@@ -16,10 +16,12 @@ use Rattle.mls_result.specs.declared.status.Status.TheVariants as status
 use Rattle.mls_export.specs.Exports.{HasGiven, HaveGiven, StoppedAt}
 use Rattle.mls_export.specs.Files.{AreSaved}
 use Rattle.mls_book.proofs.KeeperPlaces.{element_in}
-use Rattle.mls_cli.specs.Fold.{folded_histories}
+use Rattle.mls_cli.specs.Fold.{Folded, folded_histories}
 use Rattle.mls_cli.specs.Export.{AllHold, AreTold, IsEmptyAt}
-use Rattle.mls_cli.specs.Tasks.{Task, nothing, folding, exporting, Saving, saves_none, saves_made, saves_states}
-use Rattle.mls_cli.specs.Answers.{Answers, AreSound, Carries, DidNotRise, Exactly, ExportAnswer, IsAnswered, IsAsked, IsHeld, IsRefusal, IsRight, IsSure, KeepersAnswer, NoneRose, NoSaveRose, RoseAt, SaveFails, TakesText, WriteFails}
+use Rattle.mls_cli.specs.Tasks.{Exported, Task, nothing, folding, exporting, resuming, resumed_histories, Saving, saves_none, saves_made, saves_states}
+use Rattle.mls_cli.specs.Answers.{Answers, AreSound, Carries, DidNotRise, Exactly, ExportAnswer, IsAnswered, IsAsked, IsHeld, IsRefusal, IsRight, IsSure, IsTextSure, KeepersAnswer, NoneRose, NoSaveRose, ResumeAnswer, RoseAt, SaveFails, TakesText, TellsRight, WriteFails}
+use Rattle.mls_cli.specs.Ideal.{RefusesAsked}
+use Rattle.mls_resumed.specs.GoingOn.{resumed_text}
 use Rattle.mls_export.specs.Files.{FileState}
 
 -- what is right, where the answer is a refusal
@@ -73,7 +75,8 @@ answered sound unsaved sure right old new refusal status.WriteFault h e =
     let P : Result (List ℕ) Status → Type 0 = λ o. Answers sound unsaved sure o old new status.WriteFault in
     absurd (no_front sound unsaved sure refusal old new (subst P e h))
 answered sound unsaved sure right old new refusal (status.KeeperFault rank) h e = absurd (there_text right refusal h.0 e)
-answered sound unsaved sure right old new refusal (status.CheckpointBad rank at why) h e = absurd (there_text right refusal h.0 e)
+answered sound unsaved sure right old new refusal (status.CheckpointBad rank at why) h e =
+    ⊎_elim (λ there. absurd (there_text right refusal there e)) (λ is. inl (same_refusal (status.CheckpointBad rank at why) refusal (sym is ∙ e))) h.0
 answered sound unsaved sure right old new refusal status.Memory h e = inr (inl refl)
 answered sound unsaved sure right old new refusal status.ReadFault h e = inr (inr refl)
 answered sound unsaved sure right old new refusal status.Usage h e = by_refusal sound unsaved sure right old new refusal status.Usage tt h e
@@ -150,28 +153,30 @@ none_untold held told none = true≢false (sym (subst IsSome none told))
 not_sure : (held : Option (Option (List ℕ))) (h : List LaneEvent) → Sure held h → held ≡ None → crash_after_save h ≡ true → ⊥
 not_sure held h sure none crashes = ⊎_elim (λ told. none_untold held told none) (λ quiet. true≢false (sym crashes ∙ quiet)) sure
 
-never_bad : (unsaved : Type 0) (task : Task) (rank at : ℕ) (why : CkptWhy) (files files' : FileState) (keepers keepers' : List KeeperState) → IsSure task keepers → IsHeld task keepers → KeepersAnswer unsaved task keepers keepers' (status.CheckpointBad rank at why) → ExportAnswer task files files' keepers keepers' (status.CheckpointBad rank at why) → ⊥
-never_bad unsaved nothing rank at why files files' keepers keepers' sure full leaves exported = leaves
-never_bad unsaved (folding f) rank at why files files' keepers keepers' sure full leaves exported = not_sure leaves.own.before.held (folded_histories f rank) (sure rank leaves.own.before leaves.own.was) leaves.own.related.untold leaves.own.related.crashes
-never_bad unsaved (exporting e) rank at why files files' keepers keepers' sure full leaves exported =
+never_bad : (unsaved : Type 0) (right : Result (List ℕ) Status) (task : Task) (rank at : ℕ) (why : CkptWhy) (files files' : FileState) (keepers keepers' : List KeeperState) → IsRight right → IsSure task keepers → IsHeld task keepers → KeepersAnswer unsaved right task keepers keepers' (status.CheckpointBad rank at why) → ExportAnswer task files files' keepers keepers' (status.CheckpointBad rank at why) → ⊥
+never_bad unsaved right nothing rank at why files files' keepers keepers' there sure full leaves exported = there_text right (status.CheckpointBad rank at why) there leaves.0
+never_bad unsaved right (folding f) rank at why files files' keepers keepers' there sure full leaves exported = not_sure leaves.own.before.held (folded_histories f rank) (sure rank leaves.own.before leaves.own.was) leaves.own.related.untold leaves.own.related.crashes
+never_bad unsaved right (resuming r) rank at why files files' keepers keepers' there sure full leaves exported = not_sure leaves.own.before.held (resumed_histories r rank) (sure rank leaves.own.before leaves.own.was) leaves.own.related.untold leaves.own.related.crashes
+never_bad unsaved right (exporting e) rank at why files files' keepers keepers' there sure full leaves exported =
     let at_rank = exported.1.1 in
     none_given at_rank.asked.before.held (full rank at_rank.asked.before at_rank.here at_rank.asked.was) at_rank.asked.related.told
 
 -- where all keepers are sound, none failed
-never_failed : (unsaved : Type 0) (task : Task) (rank : ℕ) (files files' : FileState) (keepers keepers' : List KeeperState) → AreSound keepers → KeepersAnswer unsaved task keepers keepers' (status.KeeperFault rank) → ExportAnswer task files files' keepers keepers' (status.KeeperFault rank) → ⊥
-never_failed unsaved nothing rank files files' keepers keepers' sound leaves exported = leaves
-never_failed unsaved (folding f) rank files files' keepers keepers' sound leaves exported = true≢false (sym (sound rank leaves.own.before leaves.own.was) ∙ leaves.own.related.unsound)
-never_failed unsaved (exporting e) rank files files' keepers keepers' sound leaves exported = true≢false (sym (sound rank exported.asked.before exported.asked.was) ∙ exported.asked.related.unsound)
+never_failed : (unsaved : Type 0) (right : Result (List ℕ) Status) (task : Task) (rank : ℕ) (files files' : FileState) (keepers keepers' : List KeeperState) → AreSound keepers → KeepersAnswer unsaved right task keepers keepers' (status.KeeperFault rank) → ExportAnswer task files files' keepers keepers' (status.KeeperFault rank) → ⊥
+never_failed unsaved right nothing rank files files' keepers keepers' sound leaves exported = leaves
+never_failed unsaved right (folding f) rank files files' keepers keepers' sound leaves exported = true≢false (sym (sound rank leaves.own.before leaves.own.was) ∙ leaves.own.related.unsound)
+never_failed unsaved right (resuming r) rank files files' keepers keepers' sound leaves exported = true≢false (sym (sound rank leaves.own.before leaves.own.was) ∙ leaves.own.related.unsound)
+never_failed unsaved right (exporting e) rank files files' keepers keepers' sound leaves exported = true≢false (sym (sound rank exported.asked.before exported.asked.was) ∙ exported.asked.related.unsound)
 
 -- where there is a text that is right, the keepers tell and no fault of the outside came, it is written or memory is wanting
 completed : (sound : Bool) (unsaved sure : Type 0) (right : Result (List ℕ) Status) (old new : SinkState) (task : Task) (files files' : FileState) (keepers keepers' : List KeeperState) (s : Status) → IsRight right → IsSure task keepers → IsHeld task keepers → NoneRose keepers keepers' → (s ≡ status.ReadFault → ⊥) → (s ≡ status.WriteFault → ⊥)
-    → ((rank : ℕ) → s ≡ status.KeeperFault rank → RoseAt rank keepers keepers') → KeepersAnswer unsaved task keepers keepers' s → ExportAnswer task files files' keepers keepers' s → Answers sound unsaved sure right old new s → (s ≡ status.Done) ⊎ (s ≡ status.Memory)
+    → ((rank : ℕ) → s ≡ status.KeeperFault rank → RoseAt rank keepers keepers') → KeepersAnswer unsaved right task keepers keepers' s → ExportAnswer task files files' keepers keepers' s → Answers sound unsaved sure right old new s → (s ≡ status.Done) ⊎ (s ≡ status.Memory)
 completed sound unsaved sure right old new task files files' keepers keepers' status.Done there tell full none read write failed leaves exported h = inl refl
 completed sound unsaved sure right old new task files files' keepers keepers' status.Memory there tell full none read write failed leaves exported h = inr refl
 completed sound unsaved sure right old new task files files' keepers keepers' status.WriteFault there tell full none read write failed leaves exported h = absurd (write refl)
 completed sound unsaved sure right old new task files files' keepers keepers' status.ReadFault there tell full none read write failed leaves exported h = absurd (read refl)
 completed sound unsaved sure right old new task files files' keepers keepers' (status.KeeperFault rank) there tell full none read write failed leaves exported h = absurd (none rank (failed rank refl))
-completed sound unsaved sure right old new task files files' keepers keepers' (status.CheckpointBad rank at why) there tell full none read write failed leaves exported h = absurd (never_bad unsaved task rank at why files files' keepers keepers' tell full leaves exported)
+completed sound unsaved sure right old new task files files' keepers keepers' (status.CheckpointBad rank at why) there tell full none read write failed leaves exported h = absurd (never_bad unsaved right task rank at why files files' keepers keepers' there tell full leaves exported)
 completed sound unsaved sure right old new task files files' keepers keepers' status.Usage there tell full none read write failed leaves exported h = absurd (text_told sound unsaved sure right old new status.Usage tt there h)
 completed sound unsaved sure right old new task files files' keepers keepers' (status.Study fault) there tell full none read write failed leaves exported h = absurd (text_told sound unsaved sure right old new (status.Study fault) tt there h)
 completed sound unsaved sure right old new task files files' keepers keepers' (status.Tape at why) there tell full none read write failed leaves exported h = absurd (text_told sound unsaved sure right old new (status.Tape at why) tt there h)
@@ -198,17 +203,20 @@ asked_is task keepers (Ok text) s is = absurd cc
 asked_is nothing keepers (Err r) s is = inl (same_answer r s is)
 asked_is (folding f) keepers (Err r) s is = inl (same_answer r s is)
 asked_is (exporting e) keepers (Err r) s is = inl (same_answer r s is)
+asked_is (resuming x) keepers (Err r) s is = inl (same_answer r s is)
 
 asked_done : (task : Task) (files files' : FileState) (keepers keepers' : List KeeperState) (right : Result (List ℕ) Status) → IsRight right → IsSure task keepers → ExportAnswer task files files' keepers keepers' status.Done → IsAsked task keepers right status.Done
 asked_done task files files' keepers keepers' (Err s) there tell exported = absurd there
 asked_done nothing files files' keepers keepers' (Ok text) there tell exported = inl refl
 asked_done (folding f) files files' keepers keepers' (Ok text) there tell exported = inl refl
+asked_done (resuming r) files files' keepers keepers' (Ok text) there tell exported = inl refl
 asked_done (exporting e) files files' keepers keepers' (Ok text) there tell exported = inl (all_hold e.ranks e.ranks exported.lists keepers keepers' exported.one_each (omega (arith)) exported.given tell)
 
 -- a checkpoint is bad where it is asked for
-asked_bad : (unsaved : Type 0) (task : Task) (rank at : ℕ) (why : CkptWhy) (files files' : FileState) (keepers keepers' : List KeeperState) (right : Result (List ℕ) Status) → IsRight right → IsSure task keepers → KeepersAnswer unsaved task keepers keepers' (status.CheckpointBad rank at why) → ExportAnswer task files files' keepers keepers' (status.CheckpointBad rank at why) → IsAsked task keepers right (status.CheckpointBad rank at why)
-asked_bad unsaved nothing rank at why files files' keepers keepers' right there tell leaves exported = absurd (never_bad unsaved nothing rank at why files files' keepers keepers' tell tt leaves exported)
-asked_bad unsaved (folding f) rank at why files files' keepers keepers' right there tell leaves exported = absurd (never_bad unsaved (folding f) rank at why files files' keepers keepers' tell tt leaves exported)
+asked_bad : (unsaved : Type 0) (task : Task) (rank at : ℕ) (why : CkptWhy) (files files' : FileState) (keepers keepers' : List KeeperState) (right : Result (List ℕ) Status) → IsRight right → IsSure task keepers → KeepersAnswer unsaved right task keepers keepers' (status.CheckpointBad rank at why) → ExportAnswer task files files' keepers keepers' (status.CheckpointBad rank at why) → IsAsked task keepers right (status.CheckpointBad rank at why)
+asked_bad unsaved nothing rank at why files files' keepers keepers' right there tell leaves exported = absurd (never_bad unsaved right nothing rank at why files files' keepers keepers' there tell tt leaves exported)
+asked_bad unsaved (folding f) rank at why files files' keepers keepers' right there tell leaves exported = absurd (never_bad unsaved right (folding f) rank at why files files' keepers keepers' there tell tt leaves exported)
+asked_bad unsaved (resuming r) rank at why files files' keepers keepers' right there tell leaves exported = absurd (never_bad unsaved right (resuming r) rank at why files files' keepers keepers' there tell tt leaves exported)
 asked_bad unsaved (exporting e) rank at why files files' keepers keepers' (Err s) there tell leaves exported = absurd there
 asked_bad unsaved (exporting e) rank at why files files' keepers keepers' (Ok text) there tell leaves exported = inl (empty_at e.ranks rank e.prefix files files' keepers keepers' tell exported.1.1 at why exported.0 exported.1.0)
 
@@ -220,35 +228,50 @@ done_is_right sound unsaved sure (Err s) old new h = absurd h
 too_few : (old new : SinkState) (text : List ℕ) → FailedAfter old new text → length text ≤ old.sure → ⊥
 too_few old new text failed takes = let few = failed.unsure in omega (arith, few, takes)
 
-never_unwritten : (sound : Bool) (unsaved sure : Type 0) (right : Result (List ℕ) Status) (old new : SinkState) → (unsaved → ⊥) → sure → TakesText right old → Answers sound unsaved sure right old new status.WriteFault → ⊥
-never_unwritten sound unsaved sure (Ok text) old new never is takes h = ⊎_elim never (λ failed. too_few old new text (failed is) takes) h
-never_unwritten sound unsaved sure (Err s) old new never is takes h = h
+text_or_none : (sound : Bool) (unsaved sure : Type 0) (right : Result (List ℕ) Status) (old new : SinkState) → (unsaved → ⊥) → sure → ((text : List ℕ) → right ≡ Ok text → length text ≤ old.sure) → Answers sound unsaved sure right old new status.WriteFault → ⊥
+text_or_none sound unsaved sure (Ok text) old new never is takes h = ⊎_elim never (λ failed. too_few old new text (failed is) (takes text refl)) h
+text_or_none sound unsaved sure (Err s) old new never is takes h = h
+
+takes_nothing : (right : Result (List ℕ) Status) (old : SinkState) → TakesText nothing right old → (text : List ℕ) → right ≡ Ok text → length text ≤ old.sure
+takes_nothing right old takes text is = subst (λ (o : Result (List ℕ) Status). TakesText nothing o old) is takes
+
+takes_fold : (f : Folded) (right : Result (List ℕ) Status) (old : SinkState) → TakesText (folding f) right old → (text : List ℕ) → right ≡ Ok text → length text ≤ old.sure
+takes_fold f right old takes text is = subst (λ (o : Result (List ℕ) Status). TakesText (folding f) o old) is takes
+
+takes_export : (e : Exported) (right : Result (List ℕ) Status) (old : SinkState) → TakesText (exporting e) right old → (text : List ℕ) → right ≡ Ok text → length text ≤ old.sure
+takes_export e right old takes text is = subst (λ (o : Result (List ℕ) Status). TakesText (exporting e) o old) is takes
+
+never_unwritten : (sound : Bool) (unsaved : Type 0) (right : Result (List ℕ) Status) (old new : SinkState) (task : Task) (keepers : List KeeperState) → (unsaved → ⊥) → IsSure task keepers → TakesText task right old → Answers sound unsaved (IsTextSure task keepers) right old new status.WriteFault → ResumeAnswer task old new keepers status.WriteFault → ⊥
+never_unwritten sound unsaved right old new nothing keepers never tell takes h resumed = text_or_none sound unsaved ⊤ right old new never tt (takes_nothing right old takes) h
+never_unwritten sound unsaved right old new (folding f) keepers never tell takes h resumed = text_or_none sound unsaved (IsTextSure (folding f) keepers) right old new never tell (takes_fold f right old takes) h
+never_unwritten sound unsaved right old new (exporting e) keepers never tell takes h resumed = text_or_none sound unsaved (IsTextSure (exporting e) keepers) right old new never tell (takes_export e right old takes) h
+never_unwritten sound unsaved right old new (resuming r) keepers never tell takes h resumed = too_few old new (resumed_text r.study r.lanes r.orders takes.before) (resumed takes.before takes.opens tell) takes.fits
 
 -- over a sound outside that tells and takes the text for sure, the answer is the one that is asked for, or memory is wanting
-asked : (sound : Bool) (unsaved sure : Type 0) (right : Result (List ℕ) Status) (old new : SinkState) (task : Task) (files files' : FileState) (keepers keepers' : List KeeperState) (s : Status) → IsTrue sound → (unsaved → ⊥) → sure → IsSure task keepers → AreSound keepers → TakesText right old
-    → KeepersAnswer unsaved task keepers keepers' s → ExportAnswer task files files' keepers keepers' s → Answers sound unsaved sure right old new s → IsAsked task keepers right s
-asked sound unsaved sure right old new task files files' keepers keepers' status.Done is never are tell all takes leaves exported h = asked_done task files files' keepers keepers' right (done_is_right sound unsaved sure right old new h) tell exported
-asked sound unsaved sure right old new task files files' keepers keepers' status.Memory is never are tell all takes leaves exported h = inr refl
-asked sound unsaved sure right old new task files files' keepers keepers' status.WriteFault is never are tell all takes leaves exported h = absurd (never_unwritten sound unsaved sure right old new never are takes h)
-asked sound unsaved sure right old new task files files' keepers keepers' (status.KeeperFault rank) is never are tell all takes leaves exported h = absurd (never_failed unsaved task rank files files' keepers keepers' all leaves exported)
-asked sound unsaved sure right old new task files files' keepers keepers' (status.CheckpointBad rank at why) is never are tell all takes leaves exported h = asked_bad unsaved task rank at why files files' keepers keepers' right h.0 tell leaves exported
-asked sound unsaved sure right old new task files files' keepers keepers' status.ReadFault is never are tell all takes leaves exported h = asked_is task keepers right status.ReadFault (h.0 is)
-asked sound unsaved sure right old new task files files' keepers keepers' status.Usage is never are tell all takes leaves exported h = asked_is task keepers right status.Usage h.0
-asked sound unsaved sure right old new task files files' keepers keepers' (status.Study fault) is never are tell all takes leaves exported h = asked_is task keepers right (status.Study fault) h.0
-asked sound unsaved sure right old new task files files' keepers keepers' (status.Tape at why) is never are tell all takes leaves exported h = asked_is task keepers right (status.Tape at why) h.0
-asked sound unsaved sure right old new task files files' keepers keepers' (status.Schedule line why) is never are tell all takes leaves exported h = asked_is task keepers right (status.Schedule line why) h.0
-asked sound unsaved sure right old new task files files' keepers keepers' (status.NotBuilt part) is never are tell all takes leaves exported h = asked_is task keepers right (status.NotBuilt part) h.0
-asked sound unsaved sure right old new task files files' keepers keepers' status.DoorFault is never are tell all takes leaves exported h = asked_is task keepers right status.DoorFault h.0
-asked sound unsaved sure right old new task files files' keepers keepers' status.LinkFault is never are tell all takes leaves exported h = asked_is task keepers right status.LinkFault h.0
-asked sound unsaved sure right old new task files files' keepers keepers' (status.Refused reason value) is never are tell all takes leaves exported h = asked_is task keepers right (status.Refused reason value) h.0
-asked sound unsaved sure right old new task files files' keepers keepers' status.Peer is never are tell all takes leaves exported h = asked_is task keepers right status.Peer h.0
-asked sound unsaved sure right old new task files files' keepers keepers' (status.NoGroup group) is never are tell all takes leaves exported h = asked_is task keepers right (status.NoGroup group) h.0
-asked sound unsaved sure right old new task files files' keepers keepers' (status.TooLong file) is never are tell all takes leaves exported h = asked_is task keepers right (status.TooLong file) h.0
-asked sound unsaved sure right old new task files files' keepers keepers' (status.Events line) is never are tell all takes leaves exported h = asked_is task keepers right (status.Events line) h.0
-asked sound unsaved sure right old new task files files' keepers keepers' status.TooLarge is never are tell all takes leaves exported h = asked_is task keepers right status.TooLarge h.0
-asked sound unsaved sure right old new task files files' keepers keepers' status.RunnerFault is never are tell all takes leaves exported h = asked_is task keepers right status.RunnerFault h.0
-asked sound unsaved sure right old new task files files' keepers keepers' (status.MarksDiffer other plane group first_has) is never are tell all takes leaves exported h = asked_is task keepers right (status.MarksDiffer other plane group first_has) h.0
-asked sound unsaved sure right old new task files files' keepers keepers' (status.OldRanks ranks) is never are tell all takes leaves exported h = asked_is task keepers right (status.OldRanks ranks) h.0
+asked : (sound : Bool) (unsaved sure : Type 0) (right : Result (List ℕ) Status) (old new : SinkState) (task : Task) (files files' : FileState) (keepers keepers' : List KeeperState) (s : Status) → IsTrue sound → (s ≡ status.WriteFault → ⊥) → IsSure task keepers → AreSound keepers
+    → KeepersAnswer unsaved right task keepers keepers' s → ExportAnswer task files files' keepers keepers' s → Answers sound unsaved sure right old new s → IsAsked task keepers right s
+asked sound unsaved sure right old new task files files' keepers keepers' status.Done is never tell all leaves exported h = asked_done task files files' keepers keepers' right (done_is_right sound unsaved sure right old new h) tell exported
+asked sound unsaved sure right old new task files files' keepers keepers' status.Memory is never tell all leaves exported h = inr refl
+asked sound unsaved sure right old new task files files' keepers keepers' status.WriteFault is never tell all leaves exported h = absurd (never refl)
+asked sound unsaved sure right old new task files files' keepers keepers' (status.KeeperFault rank) is never tell all leaves exported h = absurd (never_failed unsaved right task rank files files' keepers keepers' all leaves exported)
+asked sound unsaved sure right old new task files files' keepers keepers' (status.CheckpointBad rank at why) is never tell all leaves exported h = ⊎_elim (λ there. asked_bad unsaved task rank at why files files' keepers keepers' right there tell leaves exported) (asked_is task keepers right (status.CheckpointBad rank at why)) h.0
+asked sound unsaved sure right old new task files files' keepers keepers' status.ReadFault is never tell all leaves exported h = asked_is task keepers right status.ReadFault (h.0 is)
+asked sound unsaved sure right old new task files files' keepers keepers' status.Usage is never tell all leaves exported h = asked_is task keepers right status.Usage h.0
+asked sound unsaved sure right old new task files files' keepers keepers' (status.Study fault) is never tell all leaves exported h = asked_is task keepers right (status.Study fault) h.0
+asked sound unsaved sure right old new task files files' keepers keepers' (status.Tape at why) is never tell all leaves exported h = asked_is task keepers right (status.Tape at why) h.0
+asked sound unsaved sure right old new task files files' keepers keepers' (status.Schedule line why) is never tell all leaves exported h = asked_is task keepers right (status.Schedule line why) h.0
+asked sound unsaved sure right old new task files files' keepers keepers' (status.NotBuilt part) is never tell all leaves exported h = asked_is task keepers right (status.NotBuilt part) h.0
+asked sound unsaved sure right old new task files files' keepers keepers' status.DoorFault is never tell all leaves exported h = asked_is task keepers right status.DoorFault h.0
+asked sound unsaved sure right old new task files files' keepers keepers' status.LinkFault is never tell all leaves exported h = asked_is task keepers right status.LinkFault h.0
+asked sound unsaved sure right old new task files files' keepers keepers' (status.Refused reason value) is never tell all leaves exported h = asked_is task keepers right (status.Refused reason value) h.0
+asked sound unsaved sure right old new task files files' keepers keepers' status.Peer is never tell all leaves exported h = asked_is task keepers right status.Peer h.0
+asked sound unsaved sure right old new task files files' keepers keepers' (status.NoGroup group) is never tell all leaves exported h = asked_is task keepers right (status.NoGroup group) h.0
+asked sound unsaved sure right old new task files files' keepers keepers' (status.TooLong file) is never tell all leaves exported h = asked_is task keepers right (status.TooLong file) h.0
+asked sound unsaved sure right old new task files files' keepers keepers' (status.Events line) is never tell all leaves exported h = asked_is task keepers right (status.Events line) h.0
+asked sound unsaved sure right old new task files files' keepers keepers' status.TooLarge is never tell all leaves exported h = asked_is task keepers right status.TooLarge h.0
+asked sound unsaved sure right old new task files files' keepers keepers' status.RunnerFault is never tell all leaves exported h = asked_is task keepers right status.RunnerFault h.0
+asked sound unsaved sure right old new task files files' keepers keepers' (status.MarksDiffer other plane group first_has) is never tell all leaves exported h = asked_is task keepers right (status.MarksDiffer other plane group first_has) h.0
+asked sound unsaved sure right old new task files files' keepers keepers' (status.OldRanks ranks) is never tell all leaves exported h = asked_is task keepers right (status.OldRanks ranks) h.0
 
 -- no save of sound files fails
 never_unsaved : (saved : Saving) (task : Task) (files files' : FileState) (out out' : SinkState) (keepers keepers' : List KeeperState) → IsTrue files.sound → SaveFails saved task files files' out out' keepers keepers' → ⊥
@@ -256,9 +279,11 @@ never_unsaved saves_none task files files' out out' keepers keepers' sound faile
 never_unsaved (saves_made names) nothing files files' out out' keepers keepers' sound failed = failed
 never_unsaved (saves_made names) (folding f) files files' out out' keepers keepers' sound failed = failed.unsound sound
 never_unsaved (saves_made names) (exporting e) files files' out out' keepers keepers' sound failed = failed
+never_unsaved (saves_made names) (resuming r) files files' out out' keepers keepers' sound failed = failed
 never_unsaved saves_states nothing files files' out out' keepers keepers' sound failed = failed
 never_unsaved saves_states (folding f) files files' out out' keepers keepers' sound failed = failed
 never_unsaved saves_states (exporting e) files files' out out' keepers keepers' sound failed = failed.at.files.unsound sound
+never_unsaved saves_states (resuming r) files files' out out' keepers keepers' sound failed = failed
 
 -- where no count rose, no write failed
 none_written : (saved : Saving) (files files' : FileState) (out out' : SinkState) → DidNotRise out.faults out'.faults → NoSaveRose saved files.save_faults files'.save_faults → WriteFails saved files files' out out' → ⊥
@@ -267,18 +292,26 @@ none_written (saves_made names) files files' out out' no_write no_save fails = �
 none_written saves_states files files' out out' no_write no_save fails = no_save fails
 
 -- the same of a command's answer over files that tell
-pub exact_carried : (saved : Saving) (asked_for : Names → Result (List ℕ) Status) (task : Names → Task) (files files' : FileState) (out out' : SinkState) (keepers keepers' : List KeeperState) (s : Status) (held : Names) → Carries saved asked_for task files files' out out' keepers keepers' s → files.held ≡ Some held → (refusal : Status) → IsRefusal refusal → Exactly (asked_for held) refusal s
-exact_carried saved asked_for task files files' out out' keepers keepers' s held h told refusal is =
-    exact files.sound (SaveFails saved (task held) files files' out out' keepers keepers') (IsSure (task held) keepers) (asked_for held) out out' s refusal is (h.told held told).text
+pub exact_carried : (saved : Saving) (asked_for : Names → Result (List ℕ) Status) (task : Names → Task) (files files' : FileState) (out out' : SinkState) (keepers keepers' : List KeeperState) (s : Status) (held : Names) → Carries saved asked_for task files files' out out' keepers keepers' s → files.held ≡ Some held → RefusesAsked (asked_for held) s
+exact_carried saved asked_for task files files' out out' keepers keepers' s held h told = record {
+  exact = λ refusal is. exact files.sound (SaveFails saved (task held) files files' out out' keepers keepers') (IsTextSure (task held) keepers) (asked_for held) out out' s refusal is (h.told held told).text;
+  wherever = λ refusal e. answered files.sound (SaveFails saved (task held) files files' out out' keepers keepers') (IsTextSure (task held) keepers) (asked_for held) out out' refusal s (h.told held told).text e;
+}
 
-pub asked_carried : (saved : Saving) (asked_for : Names → Result (List ℕ) Status) (task : Names → Task) (files files' : FileState) (out out' : SinkState) (keepers keepers' : List KeeperState) (s : Status) (held : Names) → Carries saved asked_for task files files' out out' keepers keepers' s → files.held ≡ Some held → IsTrue files.sound → IsSure (task held) keepers → AreSound keepers → TakesText (asked_for held) out → IsAsked (task held) keepers (asked_for held) s
+no_write_fault : (saved : Saving) (right : Result (List ℕ) Status) (task : Task) (files files' : FileState) (out out' : SinkState) (keepers keepers' : List KeeperState) (s : Status) → TellsRight saved right task files files' out out' keepers keepers' s → IsTrue files.sound → IsSure task keepers → TakesText task right out → s ≡ status.WriteFault → ⊥
+no_write_fault saved right task files files' out out' keepers keepers' s h sound sure takes e =
+    let says : TellsRight saved right task files files' out out' keepers keepers' status.WriteFault = subst (λ (x : Status). TellsRight saved right task files files' out out' keepers keepers' x) e h in
+    never_unwritten files.sound (SaveFails saved task files files' out out' keepers keepers') right out out' task keepers (never_unsaved saved task files files' out out' keepers keepers' sound) sure takes says.text says.resumed
+
+pub asked_carried : (saved : Saving) (asked_for : Names → Result (List ℕ) Status) (task : Names → Task) (files files' : FileState) (out out' : SinkState) (keepers keepers' : List KeeperState) (s : Status) (held : Names) → Carries saved asked_for task files files' out out' keepers keepers' s → files.held ≡ Some held → IsTrue files.sound → IsSure (task held) keepers → AreSound keepers → TakesText (task held) (asked_for held) out → IsAsked (task held) keepers (asked_for held) s
 asked_carried saved asked_for task files files' out out' keepers keepers' s held h told sound sure all takes =
-    let never = never_unsaved saved (task held) files files' out out' keepers keepers' sound in
-    asked files.sound (SaveFails saved (task held) files files' out out' keepers keepers') (IsSure (task held) keepers) (asked_for held) out out' (task held) files files' keepers keepers' s sound never sure sure all takes (h.told held told).leaves (h.told held told).exported (h.told held told).text
+    let says = h.told held told in
+    let never : s ≡ status.WriteFault → ⊥ = no_write_fault saved (asked_for held) (task held) files files' out out' keepers keepers' s says sound sure takes in
+    asked files.sound (SaveFails saved (task held) files files' out out' keepers keepers') (IsTextSure (task held) keepers) (asked_for held) out out' (task held) files files' keepers keepers' s sound never sure all says.leaves says.exported says.text
 
 pub completed_carried : (saved : Saving) (asked_for : Names → Result (List ℕ) Status) (task : Names → Task) (files files' : FileState) (out out' : SinkState) (keepers keepers' : List KeeperState) (s : Status) (held : Names) → Carries saved asked_for task files files' out out' keepers keepers' s → files.held ≡ Some held → IsRight (asked_for held) → IsSure (task held) keepers → IsHeld (task held) keepers
     → DidNotRise files.load_faults files'.load_faults → NoSaveRose saved files.save_faults files'.save_faults → DidNotRise out.faults out'.faults → NoneRose keepers keepers' → (s ≡ status.Done) ⊎ (s ≡ status.Memory)
 completed_carried saved asked_for task files files' out out' keepers keepers' s held h told right sure full no_load no_save no_write none =
     let wrote : s ≡ status.WriteFault → ⊥ = λ e. none_written saved files files' out out' no_write no_save (h.write_fault e) in
     let read : s ≡ status.ReadFault → ⊥ = λ e. no_load (h.read_fault e) in
-    completed files.sound (SaveFails saved (task held) files files' out out' keepers keepers') (IsSure (task held) keepers) (asked_for held) out out' (task held) files files' keepers keepers' s right sure full none read wrote h.keeper_fault (h.told held told).leaves (h.told held told).exported (h.told held told).text
+    completed files.sound (SaveFails saved (task held) files files' out out' keepers keepers') (IsTextSure (task held) keepers) (asked_for held) out out' (task held) files files' keepers keepers' s right sure full none read wrote h.keeper_fault (h.told held told).leaves (h.told held told).exported (h.told held told).text

@@ -15,6 +15,7 @@ use Rattle.mls_cli.specs.declared.refusal.Refusal.TheVariants as refusal
 use Rattle.mls_cli.specs.Answers.{Carries, RoseAt, TellsRight}
 use Rattle.mls_cli.specs.Export.{export_status}
 use Rattle.mls_cli.specs.Refusals.{IsRefused, Loads}
+use Rattle.mls_cli.proofs.Carrying.{FitsTask}
 use Rattle.mls_cli.specs.Tasks.{Exported, exporting, export_task, export_text, saves_states}
 
 -- a refusal of the study is one of the text
@@ -27,6 +28,22 @@ unexported_text sound (refusal.Schedule line why) inputs is = ap export_text is
 unexported_text sound (refusal.TooLong file) inputs is = ap export_text is
 unexported_text sound (refusal.Events line) inputs is = ap export_text is
 unexported_text sound refusal.TooLarge inputs is = ap export_text is
+unexported_text sound (refusal.OldRanks ranks) inputs is = ap export_text is
+unexported_text sound (refusal.CheckpointBad rank at why) inputs is = ap export_text is
+unexported_text sound (refusal.MarksDiffer other plane group first_has) inputs is = ap export_text is
+
+pub fits_export : (sound : Bool) (r : Refusal) (inputs : Result Exported Status) → IsRefused sound r inputs → FitsTask r (export_task inputs)
+fits_export sound refusal.ReadFault inputs is = tt
+fits_export sound refusal.Memory inputs is = tt
+fits_export sound (refusal.Study fault) inputs is = tt
+fits_export sound (refusal.Tape at why) inputs is = tt
+fits_export sound (refusal.Schedule line why) inputs is = tt
+fits_export sound (refusal.TooLong file) inputs is = tt
+fits_export sound (refusal.Events line) inputs is = tt
+fits_export sound refusal.TooLarge inputs is = tt
+fits_export sound (refusal.OldRanks ranks) inputs is = tt
+fits_export sound (refusal.CheckpointBad rank at why) inputs is = subst (λ (o : Result Exported Status). FitsTask (refusal.CheckpointBad rank at why) (export_task o)) (sym is) tt
+fits_export sound (refusal.MarksDiffer other plane group first_has) inputs is = tt
 
 -- what is right of a study that is known
 told_export : (inputs : Result Exported Status) (e : Exported) (files files' : FileState) (o o' : SinkState) (keepers keepers' : List KeeperState) (s : Status) → inputs ≡ Ok e
@@ -84,6 +101,7 @@ pub carried_export : {A B : Type 0} (view : A → Exported) (loaded : Names → 
 carried_export view loaded old between new o keepers keepers' x (Ok done) h says = record {
   told = λ held told. told_export (loaded held) (view x) old new o o keepers keepers' status.Done (h.right held told) (record {
     text = λ _. nothing_written o;
+    resumed = tt;
     form = refl;
     leaves = tt;
     stored = tt;
@@ -99,6 +117,7 @@ carried_export view loaded old between new o keepers keepers' x (Ok done) h says
 carried_export view loaded old between new o keepers keepers' x (Err (fault.KeeperFault rank)) h says = record {
   told = λ held told. told_export (loaded held) (view x) old new o o keepers keepers' (status.KeeperFault rank) (h.right held told) (record {
     text = (tt, refl);
+    resumed = tt;
     form = refl;
     leaves = tt;
     stored = tt;
@@ -113,7 +132,8 @@ carried_export view loaded old between new o keepers keepers' x (Err (fault.Keep
 }
 carried_export view loaded old between new o keepers keepers' x (Err (fault.Absent rank)) h says = record {
   told = λ held told. told_export (loaded held) (view x) old new o o keepers keepers' (status.CheckpointBad rank 0 Absent) (h.right held told) (record {
-    text = (tt, refl);
+    text = (inl tt, refl);
+    resumed = tt;
     form = refl;
     leaves = tt;
     stored = tt;
@@ -134,6 +154,7 @@ carried_export view loaded old between new o keepers keepers' x (Err fault.Write
     record {
       told = λ held told. told_export (loaded held) (view x) old new o o keepers keepers' status.WriteFault (h.right held told) (record {
         text = inl failed;
+        resumed = tt;
         form = refl;
         leaves = tt;
         stored = inr tt;
@@ -149,6 +170,7 @@ carried_export view loaded old between new o keepers keepers' x (Err fault.Write
 carried_export view loaded old between new o keepers keepers' x (Err fault.Memory) h says = record {
   told = λ held told. told_export (loaded held) (view x) old new o o keepers keepers' status.Memory (h.right held told) (record {
     text = refl;
+    resumed = tt;
     form = refl;
     leaves = tt;
     stored = tt;

@@ -24,6 +24,7 @@ use Rattle.mls_cli.specs.Fold.{Ending, results, histograms, summary, Folded, ask
 use Rattle.mls_cli.specs.Tasks.{folding, fold_task, Saving, saving_of}
 use Rattle.mls_export.specs.Files.{FileState}
 use Rattle.mls_cli.specs.Refusals.{IsRefused, Loads}
+use Rattle.mls_cli.proofs.Carrying.{FitsTask}
 
 -- a refusal of the inputs is one of the text
 pub refused_text : (sound : Bool) (r : Refusal) (inputs : Result Folded Status) → IsRefused sound r inputs → IsRefused sound r (asked_text inputs)
@@ -35,6 +36,23 @@ refused_text sound (refusal.Schedule line why) inputs is = ap asked_text is
 refused_text sound (refusal.TooLong file) inputs is = ap asked_text is
 refused_text sound (refusal.Events line) inputs is = ap asked_text is
 refused_text sound refusal.TooLarge inputs is = ap asked_text is
+refused_text sound (refusal.OldRanks ranks) inputs is = ap asked_text is
+refused_text sound (refusal.CheckpointBad rank at why) inputs is = ap asked_text is
+refused_text sound (refusal.MarksDiffer other plane group first_has) inputs is = ap asked_text is
+
+-- a refusal of the inputs leaves nothing to be carried out
+pub fits_fold : (sound : Bool) (r : Refusal) (inputs : Result Folded Status) → IsRefused sound r inputs → FitsTask r (fold_task inputs)
+fits_fold sound refusal.ReadFault inputs is = tt
+fits_fold sound refusal.Memory inputs is = tt
+fits_fold sound (refusal.Study fault) inputs is = tt
+fits_fold sound (refusal.Tape at why) inputs is = tt
+fits_fold sound (refusal.Schedule line why) inputs is = tt
+fits_fold sound (refusal.TooLong file) inputs is = tt
+fits_fold sound (refusal.Events line) inputs is = tt
+fits_fold sound refusal.TooLarge inputs is = tt
+fits_fold sound (refusal.OldRanks ranks) inputs is = tt
+fits_fold sound (refusal.CheckpointBad rank at why) inputs is = subst (λ (o : Result Folded Status). FitsTask (refusal.CheckpointBad rank at why) (fold_task o)) (sym is) tt
+fits_fold sound (refusal.MarksDiffer other plane group first_has) inputs is = tt
 
 -- what is right of inputs that are known
 pub told_inputs : (saved : Saving) (inputs : Result Folded Status) (f : Folded) (files files' : FileState) (o o' : SinkState) (keepers keepers' : List KeeperState) (s : Status) → inputs ≡ Ok f
@@ -117,6 +135,7 @@ pub carried_fold : {A B : Type 0} (saved : Option NamePair) (view : A → Folded
 carried_fold saved view loaded old between new o o' keepers keepers' x (Ok done) h kept says = record {
   told = λ held told. told_inputs (saving_of saved) (loaded held) (view x) old new o o' keepers keepers' status.Done (h.right held told) (record {
     text = says.text;
+    resumed = tt;
     form = says.cores;
     leaves = says.after;
     stored = saved_since saved (view x) old.held between.held new.held h.same kept.all_saved;
@@ -132,6 +151,7 @@ carried_fold saved view loaded old between new o o' keepers keepers' x (Ok done)
 carried_fold saved view loaded old between new o o' keepers keepers' x (Err fold.WriteFault) h kept says = record {
   told = λ held told. told_inputs (saving_of saved) (loaded held) (view x) old new o o' keepers keepers' status.WriteFault (h.right held told) (record {
     text = inr says.text;
+    resumed = tt;
     form = inr says.cores;
     leaves = inr says.after;
     stored = inr (saved_since saved (view x) old.held between.held new.held h.same kept.all_saved);
@@ -147,6 +167,7 @@ carried_fold saved view loaded old between new o o' keepers keepers' x (Err fold
 carried_fold saved view loaded old between new o o' keepers keepers' x (Err (fold.KeeperFault rank)) h kept says = record {
   told = λ held told. told_inputs (saving_of saved) (loaded held) (view x) old new o o' keepers keepers' (status.KeeperFault rank) (h.right held told) (record {
     text = (tt, says.cores);
+    resumed = tt;
     form = tt;
     leaves = says.after;
     stored = saved_since saved (view x) old.held between.held new.held h.same kept.all_saved;
@@ -161,7 +182,8 @@ carried_fold saved view loaded old between new o o' keepers keepers' x (Err (fol
 }
 carried_fold saved view loaded old between new o o' keepers keepers' x (Err (fold.CheckpointBad rank at why)) h kept says = record {
   told = λ held told. told_inputs (saving_of saved) (loaded held) (view x) old new o o' keepers keepers' (status.CheckpointBad rank at why) (h.right held told) (record {
-    text = (tt, says.cores);
+    text = (inl tt, says.cores);
+    resumed = tt;
     form = tt;
     leaves = says.after;
     stored = saved_since saved (view x) old.held between.held new.held h.same kept.all_saved;
@@ -177,6 +199,7 @@ carried_fold saved view loaded old between new o o' keepers keepers' x (Err (fol
 carried_fold saved view loaded old between new o o' keepers keepers' x (Err fold.Memory) h kept says = record {
   told = λ held told. told_inputs (saving_of saved) (loaded held) (view x) old new o o' keepers keepers' status.Memory (h.right held told) (record {
     text = says.cores;
+    resumed = tt;
     form = tt;
     leaves = tt;
     stored = saved_maybe saved (view x) old.held new.held (saved_since saved (view x) old.held between.held new.held h.same kept.all_saved);

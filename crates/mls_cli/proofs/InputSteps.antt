@@ -18,6 +18,9 @@ refused_first sound (refusal.Schedule line why) right next is = ap (λ o. o >>= 
 refused_first sound (refusal.TooLong file) right next is = ap (λ o. o >>= next) is
 refused_first sound (refusal.Events line) right next is = ap (λ o. o >>= next) is
 refused_first sound refusal.TooLarge right next is = ap (λ o. o >>= next) is
+refused_first sound (refusal.OldRanks ranks) right next is = ap (λ o. o >>= next) is
+refused_first sound (refusal.CheckpointBad rank at why) right next is = ap (λ o. o >>= next) is
+refused_first sound (refusal.MarksDiffer other plane group first_has) right next is = ap (λ o. o >>= next) is
 
 -- what holds of sound files holds of less sound ones
 refused_less : {A : Type 0} (more less : Bool) (r : Refusal) (right : Result A Status) → StaysSound less more → IsRefused more r right → IsRefused less r right
@@ -29,6 +32,9 @@ refused_less more less (refusal.Schedule line why) right stays is = is
 refused_less more less (refusal.TooLong file) right stays is = is
 refused_less more less (refusal.Events line) right stays is = is
 refused_less more less refusal.TooLarge right stays is = is
+refused_less more less (refusal.OldRanks ranks) right stays is = is
+refused_less more less (refusal.CheckpointBad rank at why) right stays is = is
+refused_less more less (refusal.MarksDiffer other plane group first_has) right stays is = is
 
 agrees_less : {A B : Type 0} (more less : Bool) (view : A → B) (result : Result A Refusal) (right : Result B Status) → StaysSound less more → Agrees more view result right → Agrees less view result right
 agrees_less more less view (Ok x) right stays is = is
@@ -50,6 +56,9 @@ content_counts (refusal.Schedule line why) before now is same = same
 content_counts (refusal.TooLong file) before now is same = same
 content_counts (refusal.Events line) before now is same = same
 content_counts refusal.TooLarge before now is same = same
+content_counts (refusal.OldRanks ranks) before now is same = same
+content_counts (refusal.CheckpointBad rank at why) before now is same = same
+content_counts (refusal.MarksDiffer other plane group first_has) before now is same = same
 
 -- what is told as before may be told no more
 may_cease : {A : Type 0} (old new : Option A) → new ≡ old → MayCease old new
@@ -65,6 +74,9 @@ leaves_same (refusal.Schedule line why) old new same = same
 leaves_same (refusal.TooLong file) old new same = same
 leaves_same (refusal.Events line) old new same = same
 leaves_same refusal.TooLarge old new same = same
+leaves_same (refusal.OldRanks ranks) old new same = same
+leaves_same (refusal.CheckpointBad rank at why) old new same = same
+leaves_same (refusal.MarksDiffer other plane group first_has) old new same = same
 
 kept : {A B : Type 0} (result : Result A Refusal) (old new : Option B) → new ≡ old → MatchResult result (λ _. new ≡ old) (λ r. Leaves r old new)
 kept (Ok x) old new same = same

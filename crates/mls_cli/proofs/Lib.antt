@@ -7,3 +7,5 @@ pub mod Exported
 pub mod Wording
 pub mod Gathered
 mod PlainLines
+pub mod OpenLists
+pub mod Resumed

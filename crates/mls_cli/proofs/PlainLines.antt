@@ -20,7 +20,7 @@ use Rattle.mls_cli.specs.Fold.{Ending, results, Folded, asked_text, asked_fold, 
 use Rattle.mls_cli.specs.Tasks.{Task, folding, fold_task, Saving}
 use Rattle.mls_cli.specs.Inputs.{◌>>=◌, right_study}
 use Rattle.mls_cli.specs.Ideal.{command_or_usage, command_task, right_command, ideal, task_of, task_or_nothing}
-use Rattle.mls_cli.specs.Answers.{Answers, Carries, IsSure, SaveFails}
+use Rattle.mls_cli.specs.Answers.{Answers, Carries, IsSure, IsTextSure, SaveFails}
 use Rattle.mls_export.specs.Files.{FileState}
 use Rattle.mls_cli.specs.Orders.{HasPlainLines, command_prints, printed_of}
 
@@ -76,11 +76,11 @@ of_words held line f is = of_option (words_of line) held f is
 
 -- after Done the result text of a fold was written, where it is sure what the keepers leave
 text_written : (sound : Bool) (unsaved : Type 0) (keepers : List KeeperState) (right : Result (List ℕ) Status) (task : Task) (f : Folded) (old new : SinkState) (s : Status)
-    → IsOfFold f right task → s ≡ status.Done → Answers sound unsaved (IsSure task keepers) right old new s → IsSure (folding f) keepers → Wrote old new (result_text f.study f.lanes f.orders)
+    → IsOfFold f right task → s ≡ status.Done → Answers sound unsaved (IsTextSure task keepers) right old new s → IsSure (folding f) keepers → Wrote old new (result_text f.study f.lanes f.orders)
 text_written sound unsaved keepers right task f old new s is done h sure =
-    let says : Answers sound unsaved (IsSure task keepers) right old new status.Done = subst (λ (x : Status). Answers sound unsaved (IsSure task keepers) right old new x) done h in
-    let of_text : Answers sound unsaved (IsSure task keepers) (Ok (folded_text f)) old new status.Done = subst (λ (o : Result (List ℕ) Status). Answers sound unsaved (IsSure task keepers) o old new status.Done) is.text says in
-    let of_fold : Answers sound unsaved (IsSure (folding f) keepers) (Ok (folded_text f)) old new status.Done = subst (λ (o : Task). Answers sound unsaved (IsSure o keepers) (Ok (folded_text f)) old new status.Done) is.fold of_text in
+    let says : Answers sound unsaved (IsTextSure task keepers) right old new status.Done = subst (λ (x : Status). Answers sound unsaved (IsTextSure task keepers) right old new x) done h in
+    let of_text : Answers sound unsaved (IsTextSure task keepers) (Ok (folded_text f)) old new status.Done = subst (λ (o : Result (List ℕ) Status). Answers sound unsaved (IsTextSure task keepers) o old new status.Done) is.text says in
+    let of_fold : Answers sound unsaved (IsTextSure (folding f) keepers) (Ok (folded_text f)) old new status.Done = subst (λ (o : Task). Answers sound unsaved (IsTextSure o keepers) (Ok (folded_text f)) old new status.Done) is.fold of_text in
     subst (λ (e : Ending). Wrote old new (ending_text e f.study f.lanes f.orders)) is.ending (of_fold sure)
 
 if_printed : (folded : Option Folded) (old new : SinkState) → ((f : Folded) → folded ≡ Some f → HasPlainLines (Some f) old new) → HasPlainLines folded old new
@@ -95,7 +95,7 @@ abbrev pub LinesAreSame : Type 0
 LinesAreSame = (study : Study) (lanes : List Lane) (orders : List (List ℕ)) → IsOrderFree study.sizes lanes → is_complete study.sizes.ranks lanes orders ≡ true → result_text study lanes orders ≡ text_with_plain_lines study lanes orders
 
 plain_lines : NoneCrash → LinesAreSame → (sound : Bool) (unsaved : Type 0) (keepers : List KeeperState) (held : Names) (line : List (List ℕ)) (old new : SinkState) (s : Status)
-    → s ≡ status.Done → Answers sound unsaved (IsSure (task_of held line) keepers) (ideal held line) old new s → HasPlainLines (printed_of held line) old new
+    → s ≡ status.Done → Answers sound unsaved (IsTextSure (task_of held line) keepers) (ideal held line) old new s → HasPlainLines (printed_of held line) old new
 plain_lines calm same sound unsaved keepers held line old new s done h =
     if_printed (printed_of held line) old new (λ f is free complete.
     let sure : IsSure (folding f) keepers = λ rank keeper there. inr (calm f.study.sizes f.lanes f.orders rank free complete) in

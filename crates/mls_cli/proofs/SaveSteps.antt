@@ -103,6 +103,7 @@ carried_unsaved B (Some names) view loaded old between new o keepers x store.Fai
     record {
       told = λ held told. told_inputs (saves_made names) (loaded held) (view x) old new o o keepers keepers status.WriteFault (h.right held told) (record {
         text = inl failed;
+        resumed = tt;
         form = inl failed;
         leaves = inl failed;
         stored = inl failed;
@@ -118,6 +119,7 @@ carried_unsaved B (Some names) view loaded old between new o keepers x store.Fai
 carried_unsaved B (Some names) view loaded old between new o keepers x store.Memory h groups s = record {
   told = λ held told. told_inputs (saves_made names) (loaded held) (view x) old new o o keepers keepers status.Memory (h.right held told) (record {
     text = refl;
+    resumed = tt;
     form = tt;
     leaves = tt;
     stored = inl (subst (λ (held : Option Names). SavedTapeAtMost names (folded_tape (view x)) held new.held) h.same s.leaves);

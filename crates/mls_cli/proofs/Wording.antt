@@ -23,7 +23,7 @@ carried_words words command old new out out' keepers keepers' s is h = subst (λ
 
 usage_answers : (files : FileState) (out : SinkState) (keepers : List KeeperState) → AnswersAs None files files out out keepers keepers status.Usage
 usage_answers files out keepers = record {
-  told = λ held told. record { text = (refl, refl); form = tt; leaves = refl; stored = refl; exported = tt; all_groups = tt };
+  told = λ held told. record { text = (refl, refl); resumed = tt; form = tt; leaves = refl; stored = refl; exported = tt; all_groups = tt };
   read_fault = λ e. absurd (cc);
   write_fault = λ e. absurd (cc);
   keeper_fault = λ rank e. absurd (cc);

@@ -1,5 +1,5 @@
 -- How an answer and what stands outside agree with what is right.
-use Rattle.std.specs.Prelude.{◌≡◌, ℕ, ◌≤◌, Bool, List, length, Option, None, Some, Result, Ok, Err, IsOkAnd, IsTrue, ◌⊎◌, ⊤}
+use Rattle.std.specs.Prelude.{◌≡◌, ℕ, ◌≤◌, ◌<◌, Bool, List, length, Option, None, Some, Result, Ok, Err, IsOkAnd, IsTrue, ◌⊎◌, ⊤}
 use Rattle.mls_base.specs.Told.{Names, MayCease, Rose}
 use Rattle.mls_text.specs.Writing.{SinkState, Wrote, FailedAfter}
 use Rattle.mls_model.specs.Numbers.{element}
@@ -19,10 +19,12 @@ use Rattle.mls_replay.specs.Folding.{OfCores}
 use Rattle.mls_bins.specs.Folding.{BinsOfCores}
 use Rattle.mls_trial.specs.Folding.{TrialOfCores}
 use Rattle.mls_export.specs.Files.{AreSaved, SaveFailedBehind}
+use Rattle.mls_model.specs.Histories.{LaneEvent}
+use Rattle.mls_resumed.specs.GoingOn.{AllOpen, HaveGoneOn, StoppedAt as RankStoppedAt, resumed_text}
 use Rattle.mls_export.specs.Exports.{ExportedTo, GetFailed, HasGiven, HasGivenBytes, IsKept, Stopped, StoppedAt}
 use Rattle.mls_cli.specs.declared.words.NamePair.{NamePair}
 use Rattle.mls_cli.specs.Fold.{Ending, results, histograms, summary, Folded, folded_histories}
-use Rattle.mls_cli.specs.Tasks.{Exported, Task, nothing, folding, exporting, Saving, saves_none, saves_made, saves_states}
+use Rattle.mls_cli.specs.Tasks.{Exported, Resumed, resumed_histories, Task, nothing, folding, exporting, resuming, Saving, saves_none, saves_made, saves_states}
 use Rattle.mls_cli.specs.Export.{AreTold, AllHold, IsEmptyAt}
 use Rattle.mls_cli.specs.Trial.{folded_tape, folded_schedule}
 use Rattle.mls_cli.specs.Saving.{SavedPair, SavedTapeAtMost, StoppedSaving}
@@ -32,11 +34,19 @@ use Rattle.mls_result.specs.declared.status.Status.{Status}
 use Rattle.mls_result.specs.declared.status.Status.TheVariants as status
 use Rattle.mls_export.specs.Files.{FileState}
 
--- what the keepers leave of a fold is known, and what they hold for an export
+-- what the keepers leave of a fold or of a resume is known, and what they hold for an export
 abbrev pub IsSure : Task → List KeeperState → Type 0
 IsSure nothing keepers = ⊤
 IsSure (folding f) keepers = AreSure (folded_histories f) keepers
 IsSure (exporting e) keepers = AreTold e.ranks keepers
+IsSure (resuming r) keepers = AreSure (resumed_histories r) keepers
+
+-- The text is known of the words and the files alone. That of a resume is said over the histories that stood before.
+abbrev pub IsTextSure : Task → List KeeperState → Type 0
+IsTextSure nothing keepers = ⊤
+IsTextSure (folding f) keepers = AreSure (folded_histories f) keepers
+IsTextSure (exporting e) keepers = AreTold e.ranks keepers
+IsTextSure (resuming r) keepers = ⊥
 
 -- the keepers hold what an export is to save
 abbrev pub IsHeld : Task → List KeeperState → Type 0
@@ -64,13 +74,13 @@ SaveFails saved task files files' out out' keepers keepers' = ⊥
 
 -- After Done the sink has gained the text that is right and nothing else, after a failed write a front of it, where it is sure
 -- what the keepers leave, or a save before it failed. After every other answer the sink is as before. A fault of a keeper comes
--- only where there is a text. A failed read of sound files is the refusal that is right, and so is each other answer but want of
--- memory.
+-- only where there is a text, and a bad checkpoint where there is one or it is the refusal that is right. A failed read of sound files
+-- is that refusal, and so is each other answer but want of memory.
 abbrev pub Answers : (sound : Bool) (unsaved sure : Type 0) → Result (List ℕ) Status → SinkState → SinkState → Status → Type 0
 Answers sound unsaved sure right old new status.Done = IsOkAnd right (λ text. sure → Wrote old new text)
 Answers sound unsaved sure right old new status.WriteFault = IsOkAnd right (λ text. unsaved ⊎ (sure → FailedAfter old new text))
 Answers sound unsaved sure right old new (status.KeeperFault rank) = IsOkAnd right (λ text. ⊤) × (new ≡ old)
-Answers sound unsaved sure right old new (status.CheckpointBad rank at why) = IsOkAnd right (λ text. ⊤) × (new ≡ old)
+Answers sound unsaved sure right old new (status.CheckpointBad rank at why) = (IsOkAnd right (λ text. ⊤) ⊎ (right ≡ Err (status.CheckpointBad rank at why))) × (new ≡ old)
 Answers sound unsaved sure right old new status.Memory = new ≡ old
 Answers sound unsaved sure right old new status.ReadFault = (IsTrue sound → right ≡ Err status.ReadFault) × (new ≡ old)
 Answers sound unsaved sure right old new answer = (right ≡ Err answer) × (new ≡ old)
@@ -81,7 +91,7 @@ OfEnding results study lanes goes = OfCores field_ghosts study (lines_of lanes) 
 OfEnding histograms study lanes goes = BinsOfCores hist_ghosts study (lines_of lanes) goes
 OfEnding (summary number) study lanes goes = TrialOfCores field_ghosts study number lanes goes
 
--- Whatever the keepers tell, what a fold appended is the text of some cores of the study and of the tape's lanes, and after a
+-- Whatever the keepers tell, what a fold or a resume appended is the text of some cores of the study and of the tape's lanes, and after a
 -- failed write a front of such a text, or a save before it failed. An export leaves the sink as it was.
 abbrev pub IsOfCores : (unsaved : Type 0) → Task → SinkState → SinkState → Status → Type 0
 IsOfCores unsaved nothing old new answer = ⊤
@@ -89,6 +99,9 @@ IsOfCores unsaved (folding f) old new status.Done = OfEnding f.ending f.study f.
 IsOfCores unsaved (folding f) old new status.WriteFault = unsaved ⊎ OfEnding f.ending f.study f.lanes (FailedAfter old new)
 IsOfCores unsaved (folding f) old new answer = ⊤
 IsOfCores unsaved (exporting e) old new answer = new ≡ old
+IsOfCores unsaved (resuming r) old new status.Done = OfEnding results r.study r.lanes (Wrote old new)
+IsOfCores unsaved (resuming r) old new status.WriteFault = OfEnding results r.study r.lanes (FailedAfter old new)
+IsOfCores unsaved (resuming r) old new answer = ⊤
 
 -- the part of a checkpoint that has what is folded, by the fold's ending: its spelling, and the place behind it
 abbrev pub ending_part : Ending → Sizes → ℕ → Table → List ℕ
@@ -110,15 +123,40 @@ FoldLeaves unsaved f old new (status.KeeperFault rank) = EndedAt (ending_part f.
 FoldLeaves unsaved f old new (status.CheckpointBad rank at why) = EndedAt (ending_part f.ending) f.study.sizes (folded_histories f) rank (HasGivenNone (ending_at f.ending) f.study.sizes rank at why (folded_histories f rank)) old new
 FoldLeaves unsaved f old new answer = ⊤
 
-abbrev pub OtherLeaves : List KeeperState → List KeeperState → Status → Type 0
-OtherLeaves old new (status.KeeperFault rank) = ⊥
-OtherLeaves old new (status.CheckpointBad rank at why) = ⊥
-OtherLeaves old new answer = new ≡ old
+-- no keeper was called; a checkpoint is bad only as the refusal that is right
+abbrev pub OtherLeaves : (right : Result (List ℕ) Status) → List KeeperState → List KeeperState → Status → Type 0
+OtherLeaves right old new (status.KeeperFault rank) = ⊥
+OtherLeaves right old new (status.CheckpointBad rank at why) = (right ≡ Err (status.CheckpointBad rank at why)) × (new ≡ old)
+OtherLeaves right old new answer = new ≡ old
 
-abbrev pub KeepersAnswer : (unsaved : Type 0) → Task → List KeeperState → List KeeperState → Status → Type 0
-KeepersAnswer unsaved nothing old new answer = OtherLeaves old new answer
-KeepersAnswer unsaved (folding f) old new answer = FoldLeaves unsaved f old new answer
-KeepersAnswer unsaved (exporting e) old new answer = ⊤
+-- the histories that the lists of a resume may go on from
+abbrev pub opens_of : Resumed → ℕ → List LaneEvent → Type 0
+opens_of r = AllOpen field_ghosts r.study.sizes r.openings
+
+-- After a resume each keeper went over the events of its rank in this run, as after a fold. What it holds is the checkpoint of what
+-- stood before, a save and these events up to the last save.
+abbrev pub ResumeLeaves : Resumed → List KeeperState → List KeeperState → Status → Type 0
+ResumeLeaves r old new status.Done = HaveGoneOn sums_part r.study.sizes (opens_of r) (resumed_histories r) r.study.sizes.ranks old new
+ResumeLeaves r old new status.WriteFault = HaveGoneOn sums_part r.study.sizes (opens_of r) (resumed_histories r) r.study.sizes.ranks old new
+ResumeLeaves r old new (status.KeeperFault rank) = RankStoppedAt sums_part r.study.sizes (opens_of r) (resumed_histories r) rank (HasFailed (resumed_histories r rank)) old new
+ResumeLeaves r old new (status.CheckpointBad rank at why) = RankStoppedAt sums_part r.study.sizes (opens_of r) (resumed_histories r) rank (HasGivenNone sums_at r.study.sizes rank at why (resumed_histories r rank)) old new
+ResumeLeaves r old new answer = ⊤
+
+abbrev pub KeepersAnswer : (unsaved : Type 0) → (right : Result (List ℕ) Status) → Task → List KeeperState → List KeeperState → Status → Type 0
+KeepersAnswer unsaved right nothing old new answer = OtherLeaves right old new answer
+KeepersAnswer unsaved right (folding f) old new answer = FoldLeaves unsaved f old new answer
+KeepersAnswer unsaved right (exporting e) old new answer = ⊤
+KeepersAnswer unsaved right (resuming r) old new answer = ResumeLeaves r old new answer
+
+-- What a resume writes: for all histories that the lists open with, the text over each of them, a save and the events of this run,
+-- where it is sure what the keepers leave.
+abbrev pub ResumeWrites : Resumed → List KeeperState → (goes : List ℕ → Type 0) → Type 0
+ResumeWrites r keepers goes = (before : ℕ → List LaneEvent) → ((rank : ℕ) → rank < r.study.sizes.ranks → opens_of r rank (before rank)) → AreSure (resumed_histories r) keepers → goes (resumed_text r.study r.lanes r.orders before)
+
+abbrev pub ResumeAnswer : Task → SinkState → SinkState → List KeeperState → Status → Type 0
+ResumeAnswer (resuming r) old new keepers status.Done = ResumeWrites r keepers (Wrote old new)
+ResumeAnswer (resuming r) old new keepers status.WriteFault = ResumeWrites r keepers (FailedAfter old new)
+ResumeAnswer task old new keepers answer = ⊤
 
 -- An export that ran out of memory: before it began, or at some rank. The files of the ranks below are saved, and nothing failed.
 abbrev pub ExportWants : Exported → (files files' : FileState) (keepers keepers' : List KeeperState) → Type 0
@@ -183,10 +221,17 @@ AreSound keepers = (rank : ℕ) (keeper : KeeperState) → element keepers rank 
 abbrev pub NoneRose : List KeeperState → List KeeperState → Type 0
 NoneRose old new = (rank : ℕ) → RoseAt rank old new → ⊥
 
+-- The lists of a resume open with some histories, and the sink takes for sure as many bytes as the text over them has.
+pub record TakesResumed (r : Resumed) (out : SinkState) : Type 0 where
+  pub before : ℕ → List LaneEvent
+  pub opens : (rank : ℕ) → rank < r.study.sizes.ranks → opens_of r rank (before rank)
+  pub fits : length (resumed_text r.study r.lanes r.orders before) ≤ out.sure
+
 -- the sink takes for sure as many bytes as the text has, where there is one
-abbrev pub TakesText : Result (List ℕ) Status → SinkState → Type 0
-TakesText (Ok text) out = length text ≤ out.sure
-TakesText (Err refusal) out = ⊤
+abbrev pub TakesText : Task → Result (List ℕ) Status → SinkState → Type 0
+TakesText (resuming r) right out = TakesResumed r out
+TakesText task (Ok text) out = length text ≤ out.sure
+TakesText task (Err refusal) out = ⊤
 
 -- every answer but these two comes before anything is written
 abbrev pub IsQuiet : Status → Type 0
@@ -276,11 +321,13 @@ NoSaveRose saved before now = DidNotRise before now
 -- How a command answers over files that tell what they hold, against the text or the refusal that is right.
 pub record TellsRight (saved : Saving) (right : Result (List ℕ) Status) (task : Task) (files files' : FileState) (out out' : SinkState) (keepers keepers' : List KeeperState) (answer : Status) : Type 0 where
   -- the text or the refusal, against what was written
-  pub text : Answers files.sound (SaveFails saved task files files' out out' keepers keepers') (IsSure task keepers) right out out' answer
+  pub text : Answers files.sound (SaveFails saved task files files' out out' keepers keepers') (IsTextSure task keepers) right out out' answer
+  -- what a resume wrote
+  pub resumed : ResumeAnswer task out out' keepers answer
   -- what was written, whatever the keepers tell
   pub form : IsOfCores (SaveFails saved task files files' out out' keepers keepers') task out out' answer
   -- the keepers after it
-  pub leaves : KeepersAnswer (SaveFails saved task files files' out out' keepers keepers') task keepers keepers' answer
+  pub leaves : KeepersAnswer (SaveFails saved task files files' out out' keepers keepers') right task keepers keepers' answer
   -- the files after it
   pub stored : FilesAnswer (SaveFails saved task files files' out out' keepers keepers') saved task files.held files'.held answer
   -- the files and the keepers after an export

@@ -8,7 +8,6 @@ use Rattle.mls_result.specs.declared.status.Status.{Status}
 use Rattle.mls_result.specs.declared.status.Status.TheVariants as status
 use Rattle.mls_result.specs.declared.status.FileRole.{FileRole}
 use Rattle.mls_result.specs.declared.status.FileRole.TheVariants as role
-use Rattle.mls_result.specs.declared.status.Unbuilt.{Unbuilt}
 
 -- steps one after another; the first refusal ends them
 infixl 10 ◌>>=◌
@@ -24,9 +23,6 @@ study_limit = 65536
 abbrev pub limited : FileRole → ℕ → Option (List ℕ) → Result (List ℕ) Status
 limited file max None = Err status.ReadFault
 limited file max (Some bytes) = cond (nat_lt max (length bytes)) (Err (status.TooLong file)) (Ok bytes)
-
-abbrev pub not_built : {A : Type 0} → Unbuilt → Result A Status
-not_built part = Err (status.NotBuilt part)
 
 abbrev pub study_answer : Result Study StudyFault → Result Study Status
 study_answer (Ok study) = Ok study

@@ -5,6 +5,7 @@ pub mod Fold
 pub mod Trial
 pub mod Tasks
 pub mod Export
+pub mod Resume
 pub mod Watch
 pub mod Design
 pub mod Saving

@@ -19,6 +19,9 @@ status_of (refusal.Schedule line why) = status.Schedule line why
 status_of (refusal.TooLong file) = status.TooLong file
 status_of (refusal.Events line) = status.Events line
 status_of refusal.TooLarge = status.TooLarge
+status_of (refusal.OldRanks ranks) = status.OldRanks ranks
+status_of (refusal.CheckpointBad rank at why) = status.CheckpointBad rank at why
+status_of (refusal.MarksDiffer other plane group first_has) = status.MarksDiffer other plane group first_has
 
 -- how a command is refused whose study has this fault
 abbrev pub study_refusal : StudyFault → Refusal

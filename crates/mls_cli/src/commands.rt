@@ -16,13 +16,14 @@ use crate::bins::run_bins;
 use crate::design::run_design;
 use crate::export::run_export;
 use crate::fold::run_fold;
+use crate::resume::run_resume;
 use crate::trial::run_trial;
 use crate::watch::run_watch;
 use crate::words::{Words, WordsFault, read_words};
 use mls_base::outside::{Files, Keeper, Sink};
 use mls_orders::completed_keys::no_rank_crashes;
 use mls_orders::result_lines::result_text_has_the_plain_lines;
-use mls_result::{Status, Unbuilt};
+use mls_result::Status;
 use std::alloc::Global;
 
 /// Carries out a command.
@@ -86,10 +87,23 @@ fn carry_out<F: Files, O: Sink, K: Keeper + Drop>(
         Words::Export { study, prefix } => {
             return run_export(alloc, study.as_str(), prefix.as_str(), files, keepers);
         }
-        Words::Resume { .. } => {
-            let part = Unbuilt::Command;
-            return (Status::NotBuilt { part }, keepers);
-        }
+        Words::Resume {
+            study,
+            old,
+            prefix,
+            tape,
+            schedule,
+        } => return run_resume(
+            alloc,
+            study.as_str(),
+            old,
+            prefix.as_str(),
+            tape.as_str(),
+            &schedule,
+            files,
+            out,
+            keepers,
+        ),
     }
 }
 
@@ -126,7 +140,7 @@ fn run<F: Files, O: Sink, K: Keeper + Drop>(
 /// ask for where the answer is `Done`, a front of it after `WriteFault`, and nothing after every other answer. A fold
 /// calls the keeper of a rank at the saves and crashes of its history; each keeper comes back in its place. A trial with
 /// names saves the tape and the schedule that it makes before it folds them. An export writes no text: it saves what the
-/// keeper of each rank holds. No other command saves a file.
+/// keeper of each rank holds. A resume goes on from such files. No other command saves a file.
 pub fn melissa<F: Files, O: Sink, K: Keeper + Drop>(
     alloc: Global,
     words: &[String],
@@ -143,6 +157,9 @@ pub fn melissa<F: Files, O: Sink, K: Keeper + Drop>(
     // makes is saved before its fold, and its line `groups` has the study's number of groups twice. An export asks the
     // keeper of each rank of the study once, in rising rank, and saves what it gives before the next is asked; it ends at
     // the first get that fails, keeper that holds nothing, or save that fails. The files of the ranks below stay saved.
+    // The text of a resume is, for all histories that its ranks' lists open with, the one over each of them, a save and
+    // the events of this run, where each keeper tells or no crash stands behind a save of this run; whatever the keepers
+    // tell, it is that of some cores. The keepers are left as by a fold of the whole histories.
     ensures right { (held : Names) → F.held files.old ≡ Some held →
         TellsRight (saves_of (map string_bytes words.now)) (ideal held (map string_bytes words.now))
         (task_of held (map string_bytes words.now))
@@ -160,17 +177,19 @@ pub fn melissa<F: Files, O: Sink, K: Keeper + Drop>(
     // Where the words are no command, told files or not.
     ensures usage { (result.0 ≡ Status.Usage) ↔ (words_of (map string_bytes words.now) ≡ None) }
 
-    // Each refusal comes exactly where it is the first, but that memory may be wanting or a read may fail before.
+    // Each refusal comes exactly where it is the first, but that memory may be wanting or a read may fail before, and that
+    // a bad checkpoint is answered too where a crash read it of its keeper.
     ensures refused { RefusesExactly (F.held files.old) (map string_bytes words.now) result.0 }
 
     // Over sound files that tell, sound keepers of which it is known what they leave, and a sink that takes the text for
     // sure, the answer is the one that the words, the files and the keepers ask for, or memory is wanting: a read fails
     // exactly where the first refusal is that a name isn't held, and an export is refused exactly at the first rank whose
-    // keeper holds nothing.
+    // keeper holds nothing. Of a resume the sink takes the text over some histories that its ranks' lists open with.
     ensures sound { (held : Names) → F.held files.old ≡ Some held → IsTrue (F.sound files.old) →
         IsSure (task_of held (map string_bytes words.now)) (keepers_seen K.Keeper keepers.items) →
         AreSound (keepers_seen K.Keeper keepers.items) →
-        TakesText (ideal held (map string_bytes words.now)) (sink_seen O.told O.faults O.sure out.old) →
+        TakesText (task_of held (map string_bytes words.now)) (ideal held (map string_bytes words.now))
+        (sink_seen O.told O.faults O.sure out.old) →
         IsAsked (task_of held (map string_bytes words.now)) (keepers_seen K.Keeper keepers.items)
         (ideal held (map string_bytes words.now)) result.0 }
 

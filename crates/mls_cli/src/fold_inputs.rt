@@ -42,7 +42,7 @@ fn tape_in(alloc: Global, study: &Study, bytes: Vec<u8>) -> Result<Tape, Refusal
 }
 
 /// The tape of a name, for the study's ranks and samples.
-fn load_tape<F: Files>(
+pub(crate) fn load_tape<F: Files>(
     alloc: Global,
     files: &mut F,
     study: &Study,
@@ -100,7 +100,7 @@ fn plain_schedule(alloc: Global, tape: &Tape) -> Result<Schedule, Refusal>
 }
 
 /// The schedule of a name, or the plain one where there is no name.
-fn load_schedule<F: Files>(
+pub(crate) fn load_schedule<F: Files>(
     alloc: Global,
     files: &mut F,
     tape: &Tape,

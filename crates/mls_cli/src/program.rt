@@ -5,7 +5,7 @@ ghost use Rattle.std.specs.Io.Buffered.{writer_inner};
 ghost use Rattle.mls_base.specs.Told.{Names};
 ghost use Rattle.mls_book.specs.Keepers.{keepers_seen};
 ghost use Rattle.mls_cli.specs.Ideal.{ideal, task_of};
-ghost use Rattle.mls_cli.specs.Answers.{IsSure};
+ghost use Rattle.mls_cli.specs.Answers.{IsTextSure};
 
 use crate::commands::melissa;
 use crate::output::{BufferedSink, SteadyWriter};
@@ -44,7 +44,7 @@ fn words(rt: &HostRuntime, alloc: Global) -> Result<Vec<String>, Status> {
 
 /// Carries out the command of the words over a writer. `Done` is answered where the writer was handed all that was
 /// written: the right text, of a fold where each keeper tells what it holds or no crash of its rank stands behind a save,
-/// of an export where each keeper tells what it holds.
+/// of an export where each keeper tells what it holds. Of a resume it says nothing of the text.
 pub fn run_over<F: Files, W: SteadyWriter + Drop, K: Keeper + Drop>(
     alloc: Global,
     words: &[String],
@@ -54,7 +54,7 @@ pub fn run_over<F: Files, W: SteadyWriter + Drop, K: Keeper + Drop>(
 ) -> Status
     requires { vec_len keepers ≡ 64 }
     ensures done { (held : Names) → F.held files.old ≡ Some held →
-        IsSure (task_of held (map string_bytes words.now)) (keepers_seen K.Keeper keepers.items) →
+        IsTextSure (task_of held (map string_bytes words.now)) (keepers_seen K.Keeper keepers.items) →
         (before : List ℕ) → ⟦<BufferedSink<W> as Sink>⟧.told out.old ≡ Some before → result ≡ Status.Done →
         IsOkAnd (ideal held (map string_bytes words.now))
         (λ text. W.contents (writer_inner out.new.out) ≡ Some (before ++ text)) }

@@ -3,6 +3,7 @@
 ghost use Rattle.std.specs.Prelude.{◌≡◌};
 ghost use Rattle.mls_cli.specs.Refusals.{study_refusal};
 
+use mls_ckpt::CkptWhy;
 use mls_launch::EventFault;
 use mls_result::{FileRole, Status};
 use mls_study::StudyFault;
@@ -18,15 +19,42 @@ pub(crate) enum Refusal {
     /// The study's bytes are refused.
     Study(StudyFault),
     /// The tape's bytes are refused at a place.
-    Tape { at: u64, why: TapeWhy },
+    Tape {
+        at: u64,
+        why: TapeWhy,
+    },
     /// The schedule's bytes are refused at a line.
-    Schedule { line: u32, why: SchedWhy },
+    Schedule {
+        line: u32,
+        why: SchedWhy,
+    },
     /// The events file is refused at a line.
-    Events { line: u32 },
+    Events {
+        line: u32,
+    },
     /// A file has more bytes than it may have.
-    TooLong { file: FileRole },
+    TooLong {
+        file: FileRole,
+    },
     /// The tape of a trial would pass its limit of bytes or of events.
     TooLarge,
+    /// The study can't have this old number of ranks.
+    OldRanks {
+        ranks: u32,
+    },
+    /// The file of an old rank is refused at a place.
+    CheckpointBad {
+        rank: u32,
+        at: u64,
+        why: CkptWhy,
+    },
+    /// The marks of old rank `other` differ from those of rank 0. `first_has` says whether rank 0 has the mark.
+    MarksDiffer {
+        other: u32,
+        plane: u32,
+        group: u32,
+        first_has: bool,
+    },
 }
 
 /// How a command is refused whose study has this fault.
@@ -55,6 +83,19 @@ impl From<Refusal> for Status {
             Refusal::Events { line } => Status::Events { line },
             Refusal::TooLong { file } => Status::TooLong { file },
             Refusal::TooLarge => Status::TooLarge,
+            Refusal::OldRanks { ranks } => Status::OldRanks { ranks },
+            Refusal::CheckpointBad { rank, at, why } => Status::CheckpointBad { rank, at, why },
+            Refusal::MarksDiffer {
+                other,
+                plane,
+                group,
+                first_has,
+            } => Status::MarksDiffer {
+                other,
+                plane,
+                group,
+                first_has,
+            },
         }
     }
 }

@@ -3,12 +3,12 @@ use Rattle.std.proofs.Common.{None}
 use Rattle.mls_cli.specs.Tasks.{saves_none}
 use Rattle.mls_cli.specs.Fold.{histograms}
 use Rattle.mls_cli.proofs.Carrying.{carried_refused, no_usage}
-use Rattle.mls_cli.proofs.Folded.{carried_fold, none_saved, refused_text, some_histograms}
+use Rattle.mls_cli.proofs.Folded.{carried_fold, fits_fold, none_saved, refused_text, some_histograms}
 use Rattle.mls_cli.proofs.bins.run_bins.Goals as goal
 
 pub returns-in-Err-clause-carried : goal.returns-in-Err-clause-carried
 returns-in-Err-clause-carried g c =
-    rw (c.into.ensures) (carried_refused saves_none _ _ _ _ _ _ _ _ c.in-Err.refusal (λ held is. refused_text _ c.in-Err.refusal _ is) (c.in-Err.ensures.loads histograms))
+    rw (c.into.ensures) (carried_refused saves_none _ _ _ _ _ _ _ _ c.in-Err.refusal (λ held is. refused_text _ c.in-Err.refusal _ is) (λ held is. fits_fold _ c.in-Err.refusal _ is) (c.in-Err.ensures.loads histograms))
 
 pub returns-in-Err-clause-no_usage : goal.returns-in-Err-clause-no_usage
 returns-in-Err-clause-no_usage g c = rw (c.into.ensures) (no_usage c.in-Err.refusal)

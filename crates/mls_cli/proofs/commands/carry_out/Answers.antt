@@ -32,3 +32,8 @@ pub returns-in-Export-clause-carried : goal.returns-in-Export-clause-carried
 returns-in-Export-clause-carried g c =
     let own = rw (c.as_str-in-Export.ensures, c.as_str-in-Export-2.ensures) at (c.run_export.ensures.carried (sink_seen g.O.Sink.told g.O.Sink.faults g.O.Sink.sure c.args.out.now)) in
     rw (c.in-Export.is) own
+
+pub returns-in-Resume-clause-carried : goal.returns-in-Resume-clause-carried
+returns-in-Resume-clause-carried g c =
+    let own = rw (c.as_str-in-Resume.ensures, c.as_str-in-Resume-2.ensures, c.as_str-in-Resume-3.ensures) at c.run_resume.ensures.carried in
+    rw (c.in-Resume.is) own

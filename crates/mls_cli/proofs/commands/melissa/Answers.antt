@@ -5,7 +5,7 @@ use Rattle.mls_cli.proofs.Exactness.{exact_carried, asked_carried, completed_car
 use Rattle.mls_cli.proofs.PlainLines.{plain_carried}
 
 pub returns-clause-refused : goal.returns-clause-refused
-returns-clause-refused g c held told refusal is = exact_carried _ _ _ _ _ _ _ _ _ _ held c.run.ensures.carried told refusal is
+returns-clause-refused g c held told = exact_carried _ _ _ _ _ _ _ _ _ _ held c.run.ensures.carried told
 
 pub returns-clause-sound : goal.returns-clause-sound
 returns-clause-sound g c held told sound sure all takes = asked_carried _ _ _ _ _ _ _ _ _ _ held c.run.ensures.carried told sound sure all takes

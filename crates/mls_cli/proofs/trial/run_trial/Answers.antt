@@ -1,12 +1,12 @@
 -- What a trial answers is right.
 use Rattle.mls_cli.proofs.Carrying.{carried_refused, no_usage}
-use Rattle.mls_cli.proofs.Folded.{carried_fold, refused_text, some_trial}
+use Rattle.mls_cli.proofs.Folded.{carried_fold, fits_fold, refused_text, some_trial}
 use Rattle.mls_cli.proofs.SaveSteps.{carried_unsaved, no_usage_unsaved, saved_named}
 use Rattle.mls_cli.proofs.trial.run_trial.Goals as goal
 
 pub returns-in-Err-clause-carried : goal.returns-in-Err-clause-carried
 returns-in-Err-clause-carried g c =
-    rw (c.into.ensures) (carried_refused _ _ _ _ _ _ _ _ _ c.in-Err.refusal (λ held is. refused_text _ c.in-Err.refusal _ is) c.in-Err.ensures.loads)
+    rw (c.into.ensures) (carried_refused _ _ _ _ _ _ _ _ _ c.in-Err.refusal (λ held is. refused_text _ c.in-Err.refusal _ is) (λ held is. fits_fold _ c.in-Err.refusal _ is) c.in-Err.ensures.loads)
 
 pub returns-in-Err-clause-no_usage : goal.returns-in-Err-clause-no_usage
 returns-in-Err-clause-no_usage g c = rw (c.into.ensures) (no_usage c.in-Err.refusal)
