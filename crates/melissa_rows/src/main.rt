@@ -2,16 +2,19 @@
 //! largest and the least samples. It prints after each line how it went, what was written, and how many bytes the first
 //! rank's keeper then holds, where it holds any. A line may say which call of that keeper is to fail. A line may ask for
 //! files in memory, of which a call may be one that fails; then it also prints what the names behind a trial's number
-//! hold. Or it asks for sinks of every room that is too small. The kept run has the rows of folds, histograms, trials, saves
-//! and crashes, schedules, watches, designs, words and refusals.
+//! hold. It may have several commands, one after another over the same files in memory and keepers. Or it asks for sinks of
+//! every room that is too small. The kept run has the rows of folds, histograms, trials, saves and crashes, exports and
+//! resumes, schedules, watches, designs, words and refusals.
 #![tactic(auto)]
 
 ghost use Rattle.std.specs.Prelude.{◌≡◌, vec_len, IfOk};
 
+mod chain;
 mod extremes;
 mod in_memory;
 mod rooms;
 
+use crate::chain::print_chain;
 use crate::extremes::extreme_files;
 use crate::in_memory::print_row_in_memory;
 use crate::rooms::print_smaller_rooms;
@@ -113,6 +116,15 @@ fn print_line<F: Files>(
 ) -> io::Result<()> {
     if let Some(command) = line.strip_prefix("each smaller room: ") {
         return print_smaller_rooms(rt, alloc, line, command, files);
+    }
+    if let Some(commands) = line.strip_prefix("one after another: ") {
+        return print_chain(rt, alloc, None, None, commands, files);
+    }
+    if let Some((call, commands)) = failing_call(line, " of the files fails, one after another: ") {
+        return print_chain(rt, alloc, Some(call), None, commands, files);
+    }
+    if let Some((call, commands)) = failing_call(line, " of keeper 0 fails, one after another: ") {
+        return print_chain(rt, alloc, None, Some(call), commands, files);
     }
     if let Some(command) = line.strip_prefix("in memory: ") {
         return print_row_in_memory(rt, alloc, line, None, command, files);
