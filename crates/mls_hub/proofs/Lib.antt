@@ -8,3 +8,4 @@ pub mod Laning
 pub mod Offers
 pub mod Going
 pub mod Turnings
+pub mod Polling

@@ -7,7 +7,7 @@ use Rattle.mls_book.specs.Cores.{parts_bytes}
 use Rattle.mls_poll.specs.declared.outside.PollLink as link
 use Rattle.mls_hub.specs.declared.connection.Connection.{Connection}
 use Rattle.mls_hub.specs.Books.{WireBook}
-use Rattle.mls_hub.specs.Halls.{WasPending}
+use Rattle.mls_hub.specs.Halls.{WasPending, EndsAt}
 
 -- the keeper, where it tells, holds the state of the book's core
 abbrev pub IsSaved : {F K : Type 0} → Ghosts F → keeper.Ghosts K → WireBook F K → Type 0
@@ -21,3 +21,7 @@ pub record SomeWaits {L : Type 0} (U : link.Ghosts L) (old new : List (Connectio
   pub i : ℕ
   pub here : i < length new
   pub pending : WasPending U i old new
+
+-- each connection has its end
+abbrev pub AllEnded : {L : Type 0} → List (Connection L) → Type 0
+AllEnded {L} connections = (i : ℕ) → EndsAt i connections

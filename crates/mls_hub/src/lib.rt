@@ -8,3 +8,4 @@ mod faults;
 mod hall;
 mod offering;
 mod settling;
+mod turning;
