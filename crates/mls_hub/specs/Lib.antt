@@ -3,3 +3,4 @@ pub mod Books
 pub mod Connections
 pub mod Halls
 pub mod Turns
+pub mod Accepts

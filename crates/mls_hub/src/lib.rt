@@ -2,6 +2,7 @@
 //! it is for.
 #![tactic(auto)]
 
+mod accepting;
 mod answering;
 mod connection;
 mod faults;
