@@ -41,8 +41,10 @@ fn poll_one<L: PollLink + Drop, F: RowFold, K: Keeper + Drop, N: Run>(
     requires kept { HallKept L.PollLink F.RowFold K.Keeper N.Run true books.old.items connections.old.items }
     requires here { i < length connections.old.items }
     requires sizes { shape.now ≡ N.sizes }
-    ensures kept { OnOk result (Leaves L.PollLink F.RowFold K.Keeper N.Run true i books.old.items books.new.items connections.old.items connections.new.items) }
-    ensures stopped { OnErr result (Leaves L.PollLink F.RowFold K.Keeper N.Run false i books.old.items books.new.items connections.old.items connections.new.items) }
+    ensures kept { OnOk result (Leaves L.PollLink F.RowFold K.Keeper N.Run true i
+        books.old.items books.new.items connections.old.items connections.new.items) }
+    ensures stopped { OnErr result (Leaves L.PollLink F.RowFold K.Keeper N.Run false i
+        books.old.items books.new.items connections.old.items connections.new.items) }
     ensures caused { IfErr result (λ fault. IsCaused K.Keeper fault books.old.items books.new.items) }
     ensures ended { IfOk result (λ ended. (ended ≡ true) ↔ EndsAt i connections.new.items) }
     ensures pending { IfOk result (λ ended. ended ≡ false → WasPending L.PollLink i connections.old.items connections.new.items) }
